@@ -1,0 +1,18 @@
+-- A call's refusals in the order in which it checks them: the first whose condition holds is given.
+use mathlib.Core.Bool.{Bool, cond}
+use mathlib.Core.List.{List, [], _∷_}
+use Prim.Native.Nat.{ℕ}
+
+-- a refusal's number, and its condition
+pub record Refusal : Type 0 where
+  pub number : ℕ
+  pub when : Bool
+
+infix 60 _if_
+abbrev pub _if_ : ℕ → Bool → Refusal
+n if b = record { number = n; when = b }
+
+-- the number of the first whose condition holds, or 0
+abbrev pub first : List Refusal → ℕ
+first [] = 0
+first (r ∷ rs) = cond (r .when) (r .number) (first rs)
