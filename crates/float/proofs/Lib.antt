@@ -1,0 +1,14 @@
+pub mod Rounding
+pub mod Angle
+pub mod Rest
+pub mod Own
+pub mod Saturate
+pub mod Wholes
+pub mod Floors
+pub mod Rounds
+pub mod Signs
+pub mod Order
+pub mod Halves
+pub mod Binade
+pub mod Logs
+pub mod Powers

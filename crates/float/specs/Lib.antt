@@ -1,0 +1,4 @@
+pub mod Constant
+pub mod Ops
+pub mod Trig
+pub mod Log
