@@ -1,0 +1,11 @@
+pub mod Moved
+pub mod Over
+pub mod Ranges
+pub mod Signs
+pub mod Order
+pub mod Days
+pub mod Lengths
+pub mod Numbers
+pub mod Samples
+pub mod Shifts
+pub mod Examples

@@ -1,0 +1,35 @@
+-- `to_nanos` meets its contract. Assumes nothing.
+use Prim.Native.Nat.{_+_, _-_, _*_}
+use native.Mathlib.Omega.{arith}
+use lib.Dec.{lit<}
+use Rattle.moment.proofs.Samples.{read-sub, read-since, sub-fits}
+use borrow.Author.Needs.{needs}
+use Rattle.moment.proofs.sample.to_nanos.Statement.{statement}
+use Rattle.moment.proofs.sample.to_nanos.Tie as tie
+
+sub-n : tie.Need-sub-n
+sub-n c = search needs
+
+mul-n : tie.Need-mul-n
+mul-n c = search needs
+
+cast-n : tie.Need-cast-n
+cast-n c = search needs
+
+add-n : tie.Need-add-n
+add-n c = search needs
+
+cast-result : tie.Need-cast-result
+cast-result c = search needs
+
+sub-result : tie.Need-sub-result
+sub-result c =
+    let m = c .before .before .args .m in
+    let w = c .before .before .pre in
+    rw (read-sub ((m .secs - 17588186044416) * 1000000000 + m .nanos) (omega arith)) (sub-fits ((m .secs - 17588186044416) * 1000000000 + m .nanos) 4000000000000000000 (omega arith) (lit< tt))
+
+returns : tie.Need-returns
+returns c = read-since (c .before .before .args .m) (c .before .before .pre)
+
+pub to-nanos-spec : {M : Type 1} → statement M
+to-nanos-spec = tie.close (tie.spec sub-n mul-n cast-n add-n cast-result sub-result returns)

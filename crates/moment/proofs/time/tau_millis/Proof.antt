@@ -1,0 +1,42 @@
+use mathlib.Core.Path.{sym, _∙_}
+use borrow.Author.Tests.{leb-true, leb-false}
+use native.Mathlib.Nat.{le-of-lt}
+use borrow.Author.Needs.{needs}
+use Rattle.moment.specs.Time.{tauMillisOf, unitsOf, thousand-bits}
+use Rattle.moment.proofs.time.tau_millis.Statement.{statement}
+use Rattle.moment.proofs.time.tau_millis.Tie as tie
+
+no-later-requires : tie.Need-no-later-requires
+no-later-requires c κs = search needs
+
+millis-requires : tie.Need-millis-requires
+millis-requires c κs = ((c .before .before .pre .0, c .before .before .pre .1), leb-true _ _ (sym (c .before .no-later .ensures) ∙ c .if1 .taken))
+
+on-requires : tie.Need-on-requires
+on-requires c κs = search needs
+
+millis-requires-2 : tie.Need-millis-requires-2
+millis-requires-2 c κs = ((c .before .before .pre .1, c .before .before .pre .0), le-of-lt (leb-false _ _ (sym (c .before .no-later .ensures) ∙ c .if1 .left)))
+
+back-requires : tie.Need-back-requires
+back-requires c κs = search needs
+
+returns : tie.Need-returns
+unfolding tauMillisOf unitsOf
+returns c = simp (thousand-bits, c .on .ensures, c .before .millis .ensures, ← c .before .before .before .no-later .ensures, c .before .before .if1 .taken)
+
+returns-2 : tie.Need-returns-2
+unfolding tauMillisOf unitsOf
+returns-2 c = simp (thousand-bits, c .back .ensures, c .before .millis2 .ensures, ← c .before .before .before .no-later .ensures, c .before .before .if1 .left)
+
+pub tau-millis-spec : {M : Type 1} → statement M
+tau-millis-spec =
+    tie.close
+    (tie.spec
+    no-later-requires
+    millis-requires
+    on-requires
+    millis-requires-2
+    back-requires
+    returns
+    returns-2)

@@ -1,0 +1,4 @@
+pub mod Time
+pub mod Range
+pub mod Sample
+pub mod Calendar
