@@ -1,0 +1,54 @@
+-- The Julian date (Meeus, Astronomical Algorithms, chapter 7), in the Rust's order.
+use Prim.Native.Nat.{ℕ, zero, suc, _-_, _/_, _%_}
+use mathlib.Core.Bool.{cond, not}
+use mathlib.Core.List.{[], _∷_}
+use lib.Dec.{leb}
+use lib.IntN.{pos}
+use lib.Ieee.{Float, binary64, ofInt}
+use Rattle.float.specs.Constant.{decimal}
+use Rattle.float.specs.Ops.{_⊕_, _⊖_, _⊗_, _⊘_, floorOf}
+use Rattle.refusal.specs.Numbers as refusal
+use Rattle.refusal.specs.Order.{first, _if_}
+use Rattle.moment.specs.Time.{secondsOf}
+use Rattle.moment.specs.Range.{taken}
+use Rattle.moment.specs.Calendar.{dateOf}
+use Rattle.moment.specs.declared.Moment.{Moment}
+use Rattle.moment.specs.declared.calendar.Date.{Date}
+use Rattle.frame.specs.declared.JulianDate.{JulianDate}
+use Rattle.frame.specs.declared.JulianDate.the-variants.{At, Refused}
+
+-- a whole number
+abbrev pub num : ℕ → Float
+num n = ofInt binary64 (pos n)
+
+-- the part of a day after so many seconds and nanoseconds
+unfoldable pub dayFraction : ℕ → ℕ → Float
+dayFraction secs nanos =
+    (num (secs / 3600) ⊕ (num (secs / 60 % 60) ⊕ (num (secs % 60) ⊕ num nanos ⊘ decimal 1000000000 0) ⊘ decimal 60 0) ⊘ decimal 60 0)
+    ⊘ decimal 24 0
+
+-- of a year, a month from 3 to 14, and a day with its part: formula 7.1
+unfoldable pub julianOf : Float → Float → Float → Float
+julianOf y m day =
+    let a = floorOf (y ⊘ decimal 100 0) in
+    let b = decimal 2 0 ⊖ a ⊕ floorOf (a ⊘ decimal 4 0) in
+    floorOf (decimal 36525 2 ⊗ (y ⊕ decimal 4716 0)) ⊕ floorOf (decimal 306001 4 ⊗ (m ⊕ decimal 1 0))
+    ⊕ day ⊕ b ⊖ decimal 15245 1
+
+-- of a date: January and February are months 13 and 14 of the year before
+unfoldable pub jdOf : Date → Float → Float
+jdOf d part =
+    cond (leb (d .month) 2) (julianOf (num (d .year) ⊖ decimal 1 0) (num (d .month) ⊕ decimal 12 0) (num (d .day) ⊕ part))
+    (julianOf (num (d .year)) (num (d .month)) (num (d .day) ⊕ part))
+
+-- of the moment secs − 2^44 seconds after 1970 and so many nanoseconds; 1956-03-01 is 17,591,749,378,816
+unfoldable pub jdAt : ℕ → ℕ → Float
+jdAt secs nanos = let s = secs - 17591749378816 in jdOf (dateOf (s / 86400)) (dayFraction (s % 86400) nanos)
+
+-- the answer with this refusal number, 0 for none, and this value
+abbrev pub answer : ℕ → Float → JulianDate
+answer zero jd = At jd
+answer (suc n) jd = Refused (suc n)
+
+unfoldable pub datetimeToJdOf : Moment → JulianDate
+datetimeToJdOf m = answer (first ((refusal.moment-range if not (taken m)) ∷ [])) (jdAt (secondsOf (m .seconds)) (m .nanos))
