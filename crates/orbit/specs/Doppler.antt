@@ -1,0 +1,102 @@
+-- The received frequency, in the Rust's order.
+use Prim.Native.Nat.{ℕ, zero, suc}
+use mathlib.Core.Path.{_≡_}
+use mathlib.Core.Bool.{cond, not, _&&_}
+use mathlib.Core.List.{[], _∷_}
+use lib.Ieee.{Float, neg, lt, toSigned}
+use Rattle.float.specs.Constant.{decimal}
+use Rattle.float.specs.Ops.{_⊕_, _⊖_, _⊗_, _⊘_, one}
+use Rattle.float.specs.declared.trig.SinCos.{SinCos}
+use Rattle.roots.specs.Root.{sqrtOf}
+use Rattle.refusal.specs.Numbers as refusal
+use Rattle.refusal.specs.Order.{first, _if_}
+use Rattle.moment.specs.Time.{movedOf, overOf, tauOf, tauMillisOf, million}
+use Rattle.moment.specs.Range.{taken, countOf}
+use Rattle.moment.specs.declared.Moment.{Moment}
+use Rattle.frame.specs.declared.State.{State}
+use Rattle.frame.specs.declared.Vec3.{Vec3}
+use Rattle.orbit.specs.Orbit.{mu, ratesOf, propagatedOf, ecefAt, hoisted, turnOf}
+use Rattle.orbit.specs.declared.Elements.{Elements}
+use Rattle.orbit.specs.declared.Rates.{Rates}
+use Rattle.orbit.specs.declared.doppler.DfPoly.{DfPoly}
+use Rattle.orbit.specs.declared.doppler.Prediction.{Prediction}
+use Rattle.orbit.specs.declared.doppler.Prediction.the-variants.{Frequency, Refused}
+
+unfoldable pub dotOf : Float → Float → Float → Float → Float → Float → Float
+dotOf ax ay az bx by bz = ax ⊗ bx ⊕ ay ⊗ by ⊕ az ⊗ bz
+
+-- the speed of light, m/s
+abbrev pub light : Float
+light = decimal 299792458 0
+
+-- -MU over the radius
+unfoldable pub potentialOf : Float → Float → Float → Float
+potentialOf x y z = neg mu ⊘ sqrtOf (dotOf x y z x y z)
+
+-- dt_rel in nanoseconds
+unfoldable pub driftOf : State → Float
+driftOf s = neg (decimal 2 0) ⊗ dotOf (s .x) (s .y) (s .z) (s .vx) (s .vy) (s .vz) ⊘ (light ⊗ light) ⊗ decimal 1000000000 0
+
+abbrev pub distOf : State → Vec3 → Float
+distOf s p = sqrtOf (dotOf (s .x ⊖ p .x) (s .y ⊖ p .y) (s .z ⊖ p .z) (s .x ⊖ p .x) (s .y ⊖ p .y) (s .z ⊖ p .z))
+
+-- the shift by motion and potential, and the bias; the Rust divides by 1 − v·n/c, so a satellite going away is heard higher
+abbrev pub shiftedOf : State → Vec3 → Float → Float → Float → Float
+shiftedOf s p uRec bias centre =
+    let gamma = sqrtOf (one ⊖ dotOf (s .vx) (s .vy) (s .vz) (s .vx) (s .vy) (s .vz) ⊘ (light ⊗ light)) in
+    let approach = dotOf (s .vx) (s .vy) (s .vz) (s .x ⊖ p .x) (s .y ⊖ p .y) (s .z ⊖ p .z) ⊘ distOf s p in
+    let term = one ⊕ (potentialOf (s .x) (s .y) (s .z) ⊖ uRec) ⊘ (light ⊗ light) in
+    centre ⊗ (gamma ⊘ (one ⊖ approach ⊘ light)) ⊗ term ⊖ centre ⊕ bias
+
+unfoldable pub receivedOf : State → Vec3 → Float → Float → Float → Float → Float
+receivedOf s p uRec near bias centre = cond (lt (distOf s p) one) (centre ⊕ near) (shiftedOf s p uRec bias centre)
+
+-- refused by this number, or else r
+abbrev pub unless : ℕ → Prediction → Prediction
+unless zero r = r
+unless (suc n) r = Refused (suc n)
+
+-- of the two adjusted moments, the first that is too far
+abbrev pub farMoments : ℕ → ℕ → ℕ
+farMoments tAdj tCorr = first ((refusal.far-moment if overOf tAdj) ∷ (refusal.far-moment if overOf tCorr) ∷ [])
+
+-- the adjusted moments, in nanoseconds: t_obs moved by dt, and that moved by dt_rel
+abbrev pub adjustedOf : ℕ → Float → ℕ
+adjustedOf t dt = movedOf t 1000 (toSigned 63 (dt ⊗ million))
+
+abbrev pub correctedOf : ℕ → State → ℕ
+correctedOf t s = movedOf t 1 (toSigned 63 (driftOf s))
+
+-- from what is worked out before: rates, rotation at t_obs, potential at the receiver
+unfoldable pub predictedAt : Elements → Rates → ℕ → ℕ → SinCos → Float → Float → Float → Float → Vec3 → Float → Prediction
+predictedAt e k epoch t turn dt near bias centre p uRec =
+    let tAdj = adjustedOf t dt in
+    let tCorr = correctedOf tAdj (propagatedOf e k (tauOf tAdj epoch) turn) in
+    unless (farMoments tAdj tCorr) (Frequency (receivedOf (propagatedOf e k (tauOf tCorr epoch) turn) p uRec near bias centre))
+
+-- The Rust's text, over counts of nanoseconds, with the rotation at t_obs; `near` is added to the centre within a metre
+unfoldable pub predictedOf : Float → Float → Float → Float → ℕ → ℕ → SinCos → Float → Float → Float → Float → Vec3 → Prediction
+predictedOf a i raan0 u0 epoch t turn dt near bias centre p =
+    let tAdj = adjustedOf t dt in
+    let tCorr = correctedOf tAdj (ecefAt a i raan0 u0 (tauOf tAdj epoch) turn) in
+    unless (farMoments tAdj tCorr)
+    (Frequency (receivedOf (ecefAt a i raan0 u0 (tauOf tCorr epoch) turn) p (potentialOf (p .x) (p .y) (p .z)) near bias centre))
+
+-- what is worked out before is the Rust's
+pub predicted-hoisted : (e : Elements) (epoch t : ℕ) (turn : SinCos) (dt near bias centre : Float) (p : Vec3)
+    → predictedAt e (ratesOf e) epoch t turn dt near bias centre p (potentialOf (p .x) (p .y) (p .z)) ≡ predictedOf (e .a) (e .i) (e .raan0) (e .u0) epoch t turn dt near bias centre p
+unfolding predictedAt predictedOf
+predicted-hoisted e epoch t turn dt near bias centre p = simp hoisted
+
+unfoldable pub predictFrequencyOf : Float → Float → Float → Float → Moment → Moment → Float → Float → Float → Vec3 → Prediction
+predictFrequencyOf a i raan0 u0 epoch tObs dt df centre p =
+    unless (first ((refusal.moment-range if not (taken epoch && taken tObs)) ∷ []))
+    (predictedOf a i raan0 u0 (countOf epoch) (countOf tObs) (turnOf tObs) dt df df centre p)
+
+unfoldable pub biasOf : DfPoly → Float → Float
+biasOf d tau = d .0 ⊕ d .1 ⊗ tau ⊕ d .2 ⊗ tau ⊗ tau
+
+unfoldable pub predictFrequencyPolyOf : Float → Float → Float → Float → Moment → Moment → Float → DfPoly → Moment → Float → Vec3 → Prediction
+predictFrequencyPolyOf a i raan0 u0 epoch tObs dt d tRef centre p =
+    unless (first ((refusal.moment-range if not (taken epoch && taken tObs && taken tRef)) ∷ []))
+    (predictedOf a i raan0 u0 (countOf epoch) (countOf tObs) (turnOf tObs) dt (d .0) (biasOf d (tauMillisOf (countOf tObs) (countOf tRef))) centre p)
