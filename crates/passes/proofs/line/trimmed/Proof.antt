@@ -1,0 +1,59 @@
+-- `passes::line::trimmed` meets its contract. Assumes nothing.
+use mathlib.Core.Path.{ap, _∙_}
+use Prim.Native.Nat.{_+_}
+use borrow.Author.Tests.{eq-eqb, ne-eqb}
+use Rattle.passes.specs.Line as Spec
+use Rattle.passes.proofs.Texts.{rest}
+use borrow.Author.Needs.{needs}
+use Rattle.passes.proofs.line.trimmed.Statement.{statement}
+use Rattle.passes.proofs.line.trimmed.Tie as tie
+
+returns : tie.Need-returns
+unfolding Spec.text
+returns c = simp (eq-eqb _ _ (c .if1 .taken))
+
+shared-slice-read-if2 : tie.Need-shared-slice-read-if2
+shared-slice-read-if2 c = search needs
+
+sub-header : tie.Need-sub-header
+sub-header c = search needs
+
+part-header-start : tie.Need-part-header-start
+part-header-start c = search needs
+
+part-header-end : tie.Need-part-header-end
+part-header-end c = search needs
+
+add-header : tie.Need-add-header
+add-header c = search needs
+
+header-requires : tie.Need-header-requires
+header-requires c κs = search needs
+
+returns-2 : tie.Need-returns-2
+unfolding Spec.text
+returns-2 c =
+    let a = c .before .before .before .before .before .before .args in
+    c .header .ensures ∙ ap (Spec.header (a .s + 1)) (rest (a .t .now) 1) ∙ simp (ne-eqb _ _ (c .before .before .before .before .if1 .left), eq-eqb _ _ (c .before .before .if2 .taken))
+
+sample-requires : tie.Need-sample-requires
+sample-requires c κs = search needs
+
+returns-3 : tie.Need-returns-3
+unfolding Spec.text
+returns-3 c = simp (ne-eqb _ _ (c .before .before .before .if1 .left), ne-eqb _ _ (c .before .if2 .left), c .sample .ensures)
+
+pub trimmed-spec : {M : Type 1} → statement M
+trimmed-spec =
+    tie.close
+    (tie.spec
+    returns
+    shared-slice-read-if2
+    sub-header
+    part-header-start
+    part-header-end
+    add-header
+    header-requires
+    returns-2
+    sample-requires
+    returns-3)
