@@ -1,0 +1,5 @@
+pub mod Words
+pub mod Signs
+pub mod Runs
+pub mod Whole
+pub mod Theorems

@@ -1,0 +1,71 @@
+-- `stored::arrays::store_freqs` meets its contract. Assumes nothing.
+use Prim.Native.Nat.{_-_}
+use lib.ListN.{length}
+use lib.Ieee.{binary64, toBits}
+use Rattle.stored.proofs.Runs.{Writing, writing-none, writing-more, writing-all}
+use borrow.Author.Needs.{needs}
+use Rattle.stored.proofs.arrays.store_freqs.Statement.{statement}
+use Rattle.stored.proofs.arrays.store_freqs.Tie as tie
+
+abbrev Inv-loop : tie.InvT-loop
+Inv-loop freqs out₀ at k₀ k-end out k = Writing 8 (toBits binary64) freqs at out₀ out k
+
+abbrev μ-loop : tie.MeasureT-loop
+μ-loop freqs out₀ at k₀ k-end out k = length freqs - k
+
+loop-holds : tie.Need-loop-holds Inv-loop μ-loop
+loop-holds c = let a = c .before .before .args in writing-none 8 (toBits binary64) (a .freqs .now) (a .at) (a .out .now)
+
+mul-put-double : tie.Need-mul-put-double Inv-loop μ-loop
+mul-put-double c = search needs
+
+add-put-double : tie.Need-add-put-double Inv-loop μ-loop
+add-put-double c = search needs
+
+mul-freq-bits : tie.Need-mul-freq-bits Inv-loop μ-loop
+mul-freq-bits c = search needs
+
+shared-slice-read-freq-bits : tie.Need-shared-slice-read-freq-bits Inv-loop μ-loop
+shared-slice-read-freq-bits c = search needs
+
+freq-bits-requires : tie.Need-freq-bits-requires Inv-loop μ-loop
+freq-bits-requires c κs = search needs
+
+put-double-requires : tie.Need-put-double-requires Inv-loop μ-loop
+put-double-requires c κs = search needs
+
+add-k : tie.Need-add-k Inv-loop μ-loop
+add-k c = search needs
+
+loop-less : tie.Need-loop-less Inv-loop μ-loop
+loop-less c = search needs
+
+loop-again : tie.Need-loop-again Inv-loop μ-loop
+loop-again c =
+    let i = c .before .before .before .before .before .before in
+    writing-more _ (i .before .loop .inv) (i .loop-test .taken) (c .before .before .before .freq-bits .ensures) (c .before .before .put-double .ensures)
+
+same-length : tie.Need-same-length Inv-loop μ-loop
+same-length c = c .before .loop .inv .long
+
+returns : tie.Need-returns Inv-loop μ-loop
+returns c = writing-all (c .before .loop .inv) (c .loop-test .left)
+
+pub store-freqs-spec : {M : Type 1} → statement M
+store-freqs-spec =
+    tie.close
+    (tie.spec
+    Inv-loop
+    μ-loop
+    loop-holds
+    mul-put-double
+    add-put-double
+    mul-freq-bits
+    shared-slice-read-freq-bits
+    freq-bits-requires
+    put-double-requires
+    add-k
+    loop-less
+    loop-again
+    same-length
+    returns)

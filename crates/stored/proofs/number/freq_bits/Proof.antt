@@ -1,0 +1,17 @@
+-- `stored::number::freq_bits` meets its contract. Assumes nothing.
+use Rattle.stored.proofs.Signs.{nan-bits, not-nan}
+use borrow.Author.Needs.{needs}
+use Rattle.stored.proofs.number.freq_bits.Statement.{statement}
+use Rattle.stored.proofs.number.freq_bits.Tie as tie
+
+returns : tie.Need-returns
+returns c = nan-bits (c .before .args .v) (c .if1 .taken)
+
+float-to-bits-result : tie.Need-float-to-bits-result
+float-to-bits-result c = not-nan (c .before .args .v) (c .if1 .left)
+
+returns-2 : tie.Need-returns-2
+returns-2 c = search needs
+
+pub freq-bits-spec : {M : Type 1} → statement M
+freq-bits-spec = tie.close (tie.spec returns float-to-bits-result returns-2)
