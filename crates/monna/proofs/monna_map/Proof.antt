@@ -1,0 +1,23 @@
+-- `monna_map` meets its contract. Assumes nothing.
+use Rattle.monna.specs.Answers.{monnaMapOf, baseRefusal}
+use Rattle.monna.proofs.Endings.{base-is}
+use borrow.Author.Needs.{needs}
+use Rattle.monna.proofs.monna_map.Statement.{statement}
+use Rattle.monna.proofs.monna_map.Tie as tie
+
+is-base-requires : tie.Need-is-base-requires
+is-base-requires c κs = search needs
+
+returns : tie.Need-returns
+unfolding monnaMapOf baseRefusal
+returns c = simp (← c .before .is-base .ensures, c .if1 .taken)
+
+monna-value-requires : tie.Need-monna-value-requires
+monna-value-requires c κs = base-is (c .before .is-base .ensures) (c .if1 .left)
+
+returns-2 : tie.Need-returns-2
+unfolding monnaMapOf baseRefusal
+returns-2 c = simp (← c .before .before .is-base .ensures, c .before .if1 .left, c .monna-value .ensures)
+
+pub monna-map-spec : {M : Type 1} → statement M
+monna-map-spec = tie.close (tie.spec is-base-requires returns monna-value-requires returns-2)
