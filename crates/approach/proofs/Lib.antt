@@ -1,0 +1,8 @@
+pub mod Far
+pub mod Tables
+pub mod Fill
+pub mod Stage
+pub mod Passes
+pub mod Refusals
+pub mod Theorems
+pub mod Examples

@@ -1,0 +1,4 @@
+pub mod Pca
+pub mod Sums
+pub mod Turns
+pub mod Answers

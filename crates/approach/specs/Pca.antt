@@ -1,0 +1,84 @@
+-- The moment of closest approach of one pass, as the reference searches it.
+use mathlib.Core.Path.{_≡_, refl}
+use mathlib.Core.Bool.{cond, false}
+use mathlib.Core.List.{List}
+use Prim.Native.Nat.{ℕ, _+_, _-_, _*_, _^_}
+use lib.Dec.{eqb}
+use lib.IntN.{ℤ, pos}
+use lib.ListN.{length, getD, set}
+use lib.Ieee.{Float, nan, fin, lt, ofBits}
+use Rattle.loops.specs.Loop.{for}
+use Rattle.float.specs.Ops.{_⊖_, bits, absOf}
+use Rattle.moment.specs.declared.Instant.{Instant}
+use Rattle.moment.specs.Time.{nanosOf, tauOf}
+use Rattle.moment.specs.Sample.{instantAt, sinceOf}
+use Rattle.pass_set.specs.PassSet.{passOf}
+use Rattle.frame.specs.declared.State.{State}
+use Rattle.frame.specs.declared.Vec3.{Vec3}
+use Rattle.frame.specs.Rotation.{turnAt}
+use Rattle.orbit.specs.declared.Elements.{Elements}
+use Rattle.orbit.specs.Orbit.{ecefAt}
+use Rattle.orbit.specs.Doppler.{dotOf}
+use Rattle.approach.specs.declared.Nearest.{Nearest}
+use Rattle.approach.specs.declared.Closest.{Closest}
+
+-- f64::MAX: (2^53 − 1)×2^971
+unfoldable pub largest : Float
+largest = fin false (2 ^ 53 - 1) (pos 971)
+
+pub largest-bits : bits 0x7fefffffffffffff ≡ largest
+unfolding largest ofBits
+largest-bits = refl
+
+-- ---- the observed closest sample: the first of least |frequency − centre|; where none is below f64::MAX, the first of all
+
+unfoldable pub nearerOf : List Float → Float → ℕ → Nearest → Nearest
+nearerOf freqs center k s =
+    let off = absOf (getD freqs k nan ⊖ center) in
+    cond (lt off (s .offset)) (record { offset = off; at = k }) s
+
+unfoldable pub obsPcaAt : List Float → Float → ℕ
+obsPcaAt freqs center = for 0 (length freqs) (nearerOf freqs center) (record { offset = largest; at = 0 }) .at
+
+unfoldable pub obsPcaTime : List ℤ → List Float → Float → Instant
+obsPcaTime times freqs center = instantAt (getD times (obsPcaAt freqs center) (pos 0))
+
+-- ---- the predicted closest moment
+
+-- the square of the distance between a satellite's and a receiver's place
+unfoldable pub squareOf : State → Vec3 → Float
+squareOf s q = dotOf (s .x ⊖ q .x) (s .y ⊖ q .y) (s .z ⊖ q .z) (s .x ⊖ q .x) (s .y ⊖ q .y) (s .z ⊖ q .z)
+
+module _ (e : Elements) (epoch : Instant) (rec : Vec3) where
+  -- the same at a moment, both the orbit's and the Earth's
+  unfoldable pub squareAt : ℕ → ℕ → Float
+  squareAt secs nanos =
+      squareOf (ecefAt (e .a) (e .i) (e .raan0) (e .u0) (tauOf (nanosOf secs nanos) (nanosOf (epoch .secs) (epoch .nanos))) (turnAt secs nanos)) rec
+
+  module _ (nanos : ℕ) where
+    -- the closer of the best so far and the moment at so many seconds; all steps are whole seconds, so that the nanoseconds stay
+    unfoldable pub closerOf : ℕ → Closest → Closest
+    closerOf secs s = let d = squareAt secs nanos in cond (lt d (s .dist)) (record { dist = d; secs = secs }) s
+
+    -- n moments, step seconds apart, from half seconds before the best so far
+    unfoldable pub searchedOf : ℕ → ℕ → ℕ → Closest → Closest
+    searchedOf half step n s = for 0 n (λ k. closerOf (s .secs - half + step * k)) s
+
+    -- 600 s on both sides by 20 s, then 20 s by 2 s, then 2 s by 1 s, each around the best so far
+    unfoldable pub closestSecs : ℕ → ℕ
+    closestSecs secs = searchedOf 2 1 5 (searchedOf 20 2 21 (searchedOf 600 20 61 (record { dist = largest; secs = secs }))) .secs
+
+  unfoldable pub closestOf : Instant → Instant
+  closestOf t = record { secs = closestSecs (t .nanos) (t .secs); nanos = t .nanos }
+
+  -- of one pass's samples; an empty pass gives the epoch
+  unfoldable pub predPcaTime : Float → List ℤ → List Float → Instant
+  predPcaTime center times freqs = cond (eqb (length freqs) 0) epoch (closestOf (obsPcaTime times freqs center))
+
+  -- pass p's, in nanoseconds since 1970, at place p
+  unfoldable pub putPcaOf : Float → List ℕ → List ℤ → List Float → ℕ → List ℤ → List ℤ
+  putPcaOf center counts times freqs p out = set out p (sinceOf (predPcaTime center (passOf counts p times) (passOf counts p freqs)))
+
+  -- every pass's, by the first pass's centre
+  unfoldable pub pcaTimesOf : List ℕ → List ℤ → List Float → List Float → List ℤ → List ℤ
+  pcaTimesOf counts times freqs centers out = for 0 (length counts) (putPcaOf (getD centers 0 nan) counts times freqs) out

@@ -1,0 +1,108 @@
+-- The sum of squares that the search makes small, in the reference's order.
+use mathlib.Core.Path.{_≡_, refl}
+use mathlib.Core.Bool.{cond}
+use mathlib.Core.List.{List}
+use Prim.Native.Nat.{ℕ}
+use lib.Dec.{eqb}
+use lib.IntN.{ℤ, pos}
+use lib.ListN.{length, getD}
+use lib.Ieee.{Float, nan, round, ofBits}
+use Rattle.loops.specs.Loop.{for}
+use Rattle.float.specs.Constant.{decimal}
+use Rattle.float.specs.Ops.{_⊕_, _⊖_, _⊗_, _⊘_, bits}
+use Rattle.moment.specs.declared.Instant.{Instant}
+use Rattle.moment.specs.Time.{nanosOf, tauMillisOf}
+use Rattle.moment.specs.Sample.{instantAt}
+use Rattle.pass_set.specs.PassSet.{passOf}
+use Rattle.frame.specs.declared.Vec3.{Vec3}
+use Rattle.frame.specs.Rotation.{turnAt}
+use Rattle.orbit.specs.declared.Elements.{Elements}
+use Rattle.orbit.specs.declared.doppler.Prediction.{Prediction}
+use Rattle.orbit.specs.declared.doppler.Prediction.the-variants.{Frequency, Refused}
+use Rattle.orbit.specs.Doppler.{predictedOf}
+use Rattle.approach.specs.declared.Gradient.{Gradient}
+use Rattle.approach.specs.Pca.{obsPcaTime, predPcaTime}
+
+unfoldable pub hundred : Float
+hundred = decimal 100 0
+
+pub hundred-bits : bits 0x4059000000000000 ≡ hundred
+unfolding hundred ofBits round
+hundred-bits = refl
+
+-- the seconds from e to t: whole milliseconds over a thousand
+abbrev pub secondsFrom : Instant → Instant → Float
+secondsFrom t e = tauMillisOf (nanosOf (t .secs) (t .nanos)) (nanosOf (e .secs) (e .nanos))
+
+-- a prediction's frequency. None of a sum's is refused: theorem `never-far` of proofs/Far.antt
+abbrev pub frequencyOf : Prediction → Float
+frequencyOf (Frequency f) = f
+frequencyOf (Refused n) = nan
+
+-- r is what was predicted, and no refusal
+pub record Shifted (r : Float) (p : Prediction) : Type 0 where
+  pub is : Frequency r ≡ p
+
+module _ (e : Elements) (epoch : Instant) (rec : Vec3) where
+  -- what is predicted for the moment t, with no bias
+  unfoldable pub predictionAt : Float → Float → Instant → Prediction
+  predictionAt center dt t =
+      predictedOf (e .a) (e .i) (e .raan0) (e .u0) (nanosOf (epoch .secs) (epoch .nanos)) (nanosOf (t .secs) (t .nanos)) (turnAt (t .secs) (t .nanos)) dt (bits 0) (bits 0) center rec
+
+  -- sample k's: its frequency less centre and prediction, squared
+  unfoldable pub sampleOf : Float → Float → List ℤ → List Float → ℕ → Float → Float
+  sampleOf center dt times freqs k rss =
+      let diff = getD freqs k nan ⊖ (center ⊕ frequencyOf (predictionAt center dt (instantAt (getD times k (pos 0))))) in
+      rss ⊕ diff ⊗ diff
+
+  unfoldable pub samplesOf : Float → Float → List ℤ → List Float → Float → Float
+  samplesOf center dt times freqs rss = for 0 (length freqs) (sampleOf center dt times freqs) rss
+
+  -- of one pass's samples: the seconds from the observed closest moment, by the centre, to the predicted, by the first pass's
+  unfoldable pub dtOf : Float → Float → List ℤ → List Float → Float
+  dtOf first center times freqs = secondsFrom (predPcaTime e epoch rec first times freqs) (obsPcaTime times freqs center)
+
+  -- 100 times its square, and each sample's
+  unfoldable pub passSumOf : Float → Float → List ℤ → List Float → Float → Float
+  passSumOf first center times freqs rss =
+      let dt = dtOf first center times freqs in
+      cond (eqb (length freqs) 0) rss (samplesOf center dt times freqs (rss ⊕ hundred ⊗ dt ⊗ dt))
+
+  -- of pass p of a set
+  unfoldable pub passAddOf : Float → Float → List ℕ → List ℤ → List Float → ℕ → Float → Float
+  passAddOf first center counts times freqs p rss = passSumOf first center (passOf counts p times) (passOf counts p freqs) rss
+
+  unfoldable pub rssOf : Float → List ℕ → List ℤ → List Float → List Float → Float
+  rssOf center counts times freqs centers = for 0 (length counts) (passAddOf (getD centers 0 nan) center counts times freqs) (bits 0)
+
+-- ---- the four differences
+
+-- 1000 m, and 1e-4 rad
+unfoldable pub epsA : Float
+epsA = decimal 1000 0
+
+pub epsA-bits : bits 0x408f400000000000 ≡ epsA
+unfolding epsA ofBits round
+epsA-bits = refl
+
+unfoldable pub eps : Float
+eps = decimal 1 4
+
+pub eps-bits : bits 0x3f1a36e2eb1c432d ≡ eps
+unfolding eps ofBits round
+eps-bits = refl
+
+-- the sum by the orbit's numbers
+unfoldable pub rssAt : List ℕ → List ℤ → List Float → List Float → Vec3 → Float → Float → Instant → Float → Float → Float → Float
+rssAt counts times freqs centers rec a i epoch center raan0 u0 =
+    rssOf (record { a = a; i = i; raan0 = raan0; u0 = u0 }) epoch rec center counts times freqs centers
+
+unfoldable pub gradientOf : List ℕ → List ℤ → List Float → List Float → Vec3 → Float → Float → Instant → Float → Float → Float → Gradient
+gradientOf counts times freqs centers rec a i epoch center raan0 u0 =
+    let base = rssAt counts times freqs centers rec a i epoch center raan0 u0 in
+    record {
+      «grad_a» = (rssAt counts times freqs centers rec (a ⊕ epsA) i epoch center raan0 u0 ⊖ base) ⊘ epsA;
+      «grad_i» = (rssAt counts times freqs centers rec a (i ⊕ eps) epoch center raan0 u0 ⊖ base) ⊘ eps;
+      «grad_raan» = (rssAt counts times freqs centers rec a i epoch center (raan0 ⊕ eps) u0 ⊖ base) ⊘ eps;
+      «grad_u0» = (rssAt counts times freqs centers rec a i epoch center raan0 (u0 ⊕ eps) ⊖ base) ⊘ eps;
+    }

@@ -1,0 +1,238 @@
+// The closest moments of passes. Inner functions: they ask for moments in range and samples in pairs.
+ghost use mathlib.Core.Path.{_≡_};
+ghost use Prim.Native.Nat.{_+_, _*_, _≤_, _<_};
+ghost use lib.ListN.{length, getD, set};
+ghost use lib.IntN.{pos};
+ghost use Rattle.moment.specs.Range.{Within};
+ghost use Rattle.moment.specs.Sample.{Timed, instantAt, sinceOf};
+ghost use Rattle.frame.specs.Rotation.{turnAt};
+ghost use Rattle.approach.specs.Pca.{nearerOf, obsPcaAt, obsPcaTime, squareOf, closerOf, searchedOf, closestOf, predPcaTime, pcaTimesOf};
+ghost use Rattle.approach.specs.Turns.{Dated, Samples, PassSet, Around, Beside, Window, Held, Windowed, window};
+use crate::Closest;
+use crate::Nearest;
+use frame::State;
+use frame::Vec3;
+use moment::Instant;
+use orbit::Elements;
+use orbit::Rates;
+
+fn nearer(freqs: &[f64], center: f64, k: usize, s: Nearest) -> Nearest
+    requires { ⌜ (k < length (now freqs)) × (s .at < length (now freqs)) ⌝ }
+    ensures { λ r. ⌜ (r ≡ nearerOf (now (freqs .entry)) center k s) × (r .at < length (now (freqs .entry))) ⌝ }
+{
+    let off = float::abs(freqs[k] - center);
+    if off < s.offset {
+        Nearest { offset: off, at: k }
+    } else {
+        s
+    }
+}
+
+// Which sample is closest to the centre frequency.
+fn obs_pca_at(freqs: &[f64], center: f64) -> usize
+    requires { ⌜ 0 < length (now freqs) ⌝ }
+    ensures { λ r. ⌜ (r ≡ obsPcaAt (now (freqs .entry)) center) × (r < length (now (freqs .entry))) ⌝ }
+{
+    let mut s = Nearest {
+        offset: 1.7976931348623157e308,
+        at: 0,
+    };
+    for k in 0..freqs.len() {
+        s = nearer(freqs, center, k, s);
+    }
+    s.at
+}
+
+pub fn moment_at(times: &[i64], k: usize) -> Instant
+    requires { ⌜ Timed (now times) × (k < length (now times)) ⌝ }
+    ensures { λ r. ⌜ (r ≡ instantAt (getD (now (times .entry)) k (pos 0))) × Within 0 (r .secs) (r .nanos) ⌝ }
+{
+    moment::sample::of_nanos(times[k])
+}
+
+pub fn obs_pca_time(times: &[i64], freqs: &[f64], center: f64) -> Instant
+    requires { ⌜ Samples (now times) (now freqs) × (0 < length (now freqs)) ⌝ }
+    ensures { λ r. ⌜ (r ≡ obsPcaTime (now (times .entry)) (now (freqs .entry)) center) × Within 0 (r .secs) (r .nanos) ⌝ }
+{
+    moment_at(times, obs_pca_at(freqs, center))
+}
+
+fn square(s: State, rec: Vec3) -> f64
+    ensures { λ r. ⌜ r ≡ squareOf s rec ⌝ }
+{
+    let dx = s.x - rec.x;
+    let dy = s.y - rec.y;
+    let dz = s.z - rec.z;
+    orbit::doppler::dot(dx, dy, dz, dx, dy, dz)
+}
+
+// By entry j of a table.
+fn closer(
+    e: Elements,
+    k: Rates,
+    epoch: Instant,
+    rec: Vec3,
+    table: &[f64],
+    j: usize,
+    t: Instant,
+    s: Closest,
+) -> Closest
+    requires { ⌜ Dated e k epoch × Within 622 (t .secs) (t .nanos) × Held (now table) j (t .secs) (t .nanos) ⌝ }
+    ensures { λ r. ⌜ r ≡ closerOf e epoch rec (t .nanos) (t .secs) s ⌝ }
+{
+    let turn = crate::turns::turn_at(table, j, t);
+    let d = square(
+        orbit::propagate(e, k, moment::time::tau(t, epoch), turn),
+        rec,
+    );
+    if d < s.dist {
+        Closest {
+            dist: d,
+            secs: t.secs,
+        }
+    } else {
+        s
+    }
+}
+
+// The closest of n moments, step seconds apart, from half seconds before the best so far, if it is below that one. The table's
+// entry `at` is for the second `base`.
+fn search_around(
+    e: Elements,
+    k: Rates,
+    epoch: Instant,
+    rec: Vec3,
+    table: &[f64],
+    at: usize,
+    base: u64,
+    nanos: u32,
+    half: u64,
+    step: u64,
+    n: u64,
+    s: Closest,
+) -> Closest
+    requires { ⌜ Dated e k epoch × Around base half step n (s .secs) nanos × Window (now table) at base nanos ⌝ }
+    ensures { λ r. ⌜ (r ≡ searchedOf e epoch rec nanos half step n s) × Beside half (s .secs) (r .secs) ⌝ }
+{
+    let start = s.secs - half;
+    let mut best = s;
+    for m in 0..n {
+        let secs = start + step * m;
+        let j = at + (secs - base) as usize;
+        best = closer(e, k, epoch, rec, table, j, Instant { secs, nanos }, best);
+    }
+    best
+}
+
+// Each stage starts from the best so far.
+fn closest(
+    e: Elements,
+    k: Rates,
+    epoch: Instant,
+    rec: Vec3,
+    table: &[f64],
+    at: usize,
+    t: Instant,
+) -> Instant
+    requires { ⌜ Dated e k epoch × Within 0 (t .secs) (t .nanos) × Window (now table) at (window t) (t .nanos) ⌝ }
+    ensures { λ r. ⌜ (r ≡ closestOf e epoch rec t) × Within 622 (r .secs) (r .nanos) ⌝ }
+{
+    let nanos = t.nanos;
+    let base = t.secs - crate::turns::REACH;
+    let s = Closest {
+        dist: 1.7976931348623157e308,
+        secs: t.secs,
+    };
+    let coarse = search_around(e, k, epoch, rec, table, at, base, nanos, 600, 20, 61, s);
+    let medium = search_around(e, k, epoch, rec, table, at, base, nanos, 20, 2, 21, coarse);
+    let fine = search_around(e, k, epoch, rec, table, at, base, nanos, 2, 1, 5, medium);
+    Instant {
+        secs: fine.secs,
+        nanos,
+    }
+}
+
+// The predicted closest moment of one pass, by its sample closest to the centre; an empty pass gives the epoch.
+pub fn pred_pca_time(
+    e: Elements,
+    k: Rates,
+    epoch: Instant,
+    rec: Vec3,
+    center: f64,
+    table: &[f64],
+    at: usize,
+    times: &[i64],
+    freqs: &[f64],
+) -> Instant
+    requires { ⌜ Dated e k epoch × Samples (now times) (now freqs) × Windowed (now table) at center (now times) (now freqs) ⌝ }
+    ensures { λ r. ⌜ (r ≡ predPcaTime e epoch rec center (now (times .entry)) (now (freqs .entry))) × Within 622 (r .secs) (r .nanos) ⌝ }
+{
+    if freqs.len() == 0 {
+        return epoch;
+    }
+    closest(
+        e,
+        k,
+        epoch,
+        rec,
+        table,
+        at,
+        obs_pca_time(times, freqs, center),
+    )
+}
+
+// The same into place p of out, in nanoseconds since 1970, with no table.
+fn put_pca(
+    e: Elements,
+    k: Rates,
+    epoch: Instant,
+    rec: Vec3,
+    center: f64,
+    times: &[i64],
+    freqs: &[f64],
+    out: &mut [i64],
+    p: usize,
+)
+    requires { ⌜ Dated e k epoch × Samples (now times) (now freqs) × (p < length (now out)) ⌝ }
+    ensures { λ _. ⌜ now (out .exit) ≡ set (now (out .entry)) p (sinceOf (predPcaTime e epoch rec center (now (times .entry)) (now (freqs .entry)))) ⌝ }
+{
+    let t = pred_pca_time(e, k, epoch, rec, center, &freqs[0..0], 0, times, freqs);
+    out[p] = moment::sample::to_nanos(t);
+}
+
+// The predicted closest moments of a pass set, one per pass.
+pub fn pca_times(
+    e: Elements,
+    epoch: Instant,
+    rec: Vec3,
+    counts: &[u32],
+    times: &[i64],
+    freqs: &[f64],
+    centers: &[f64],
+    out: &mut [i64],
+)
+    requires { ⌜ Within 0 (epoch .secs) (epoch .nanos) × PassSet (now counts) (now times) (now freqs) (now centers) × (length (now counts) ≤ length (now out)) ⌝ }
+    ensures { λ _. ⌜ now (out .exit) ≡ pcaTimesOf e epoch rec (now (counts .entry)) (now (times .entry)) (now (freqs .entry)) (now (centers .entry)) (now (out .entry)) ⌝ }
+{
+    if counts.len() == 0 {
+        return;
+    }
+    let rates = orbit::rates_of(e);
+    let first = centers[0];
+    let mut k = 0usize;
+    for p in 0..counts.len() {
+        let end = k + counts[p] as usize;
+        put_pca(
+            e,
+            rates,
+            epoch,
+            rec,
+            first,
+            &times[k..end],
+            &freqs[k..end],
+            out,
+            p,
+        );
+        k = end;
+    }
+}
