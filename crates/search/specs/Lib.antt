@@ -1,0 +1,3 @@
+pub mod Sum
+pub mod Step
+pub mod Search
