@@ -1,0 +1,35 @@
+-- `jacobian` meets its contract. Assumes nothing.
+use Prim.Native.Nat.{_-_, _≤_}
+use Rattle.loops.proofs.Laws.{Tries, loops}
+use Rattle.loops.specs.Loop.{try}
+use Rattle.normal.specs.Normal.{Grid}
+use Rattle.refine.specs.Jacobian.{epsOf, columnOf}
+use Rattle.residuals.specs.Samples.{passesOf}
+use Rattle.residuals.specs.Residuals.{residuals}
+use lib.ListN.{length}
+use Rattle.refine.proofs.jacobian.Statement.{statement}
+use Rattle.refine.proofs.jacobian.Tie as tie
+
+abbrev Inv-loop : tie.InvT-loop
+Inv-loop second counts times freqs turns g x r n table₀ k₀ table k =
+    (k ≤ n) × Grid (length r) n table × Tries k n (columnOf (epsOf second) (residuals second g (passesOf counts times freqs)) x r (length r) n) table
+    (try 0 n (columnOf (epsOf second) (residuals second g (passesOf counts times freqs)) x r (length r) n) table₀)
+
+abbrev μ-loop : tie.MeasureT-loop
+μ-loop second counts times freqs turns g x r n table₀ k₀ table k = n - k
+
+pub jacobian-spec : {M : Type 1} → statement M
+jacobian-spec =
+    tie.close
+    (tie.spec
+    Inv-loop
+    μ-loop
+    (λ c. search loops)
+    (λ c κs. search loops)
+    (λ c. search loops)
+    (λ c. search loops)
+    (λ c. search loops)
+    (λ c. search loops)
+    (λ c. search loops)
+    (λ c. search loops)
+    (λ c. search loops))

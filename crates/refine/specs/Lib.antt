@@ -1,0 +1,2 @@
+pub mod Jacobian
+pub mod Advance

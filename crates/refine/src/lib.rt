@@ -1,0 +1,171 @@
+// What follows a trial of either refinement: the table of derivatives, by forward differences, and the damped step. Each
+// function does what the definition of its contract in specs/ says; a loop's body is a function of its own.
+// All but `advance` are this crate's own, and `advance` asks what the fit has checked.
+ghost use mathlib.Core.Path.{_≡_};
+ghost use Prim.Native.Nat.{_+_, _*_, _<_, _≤_};
+ghost use lib.ListN.{length};
+ghost use Rattle.loops.specs.Loop.{for, try, Made};
+ghost use Rattle.residuals.specs.Samples.{passesOf, Samples};
+ghost use Rattle.residuals.specs.Residuals.{rowsOf, residuals};
+ghost use Rattle.normal.specs.Normal.{Grid};
+ghost use Rattle.normal.specs.Answers.{outcomeOf};
+ghost use Rattle.refine.specs.Jacobian.{biasEps, epsOf, perturbedOf, putEntry, columnOf};
+ghost use Rattle.refine.specs.Advance.{advanceOf, Ready};
+use normal::Step;
+use normal::Stepped;
+use residuals::Station;
+
+// Parameters of 16 passes, and rows of 4,096 samples in them.
+const PARAMS: usize = 68;
+
+const ROWS: usize = 4144;
+
+fn bias_eps(j: usize) -> f64
+    ensures { λ r. ⌜ r ≡ biasEps j ⌝ }
+{
+    if j == 0 {
+        return 1e-3;
+    }
+    if j == 1 {
+        return 1e-2;
+    }
+    if j == 2 { 1e-4 } else { 1e-6 }
+}
+
+fn param_eps(second: bool, k: usize) -> f64
+    ensures { λ r. ⌜ r ≡ epsOf second k ⌝ }
+{
+    if k == 0 {
+        return 10.0;
+    }
+    if k < 4 {
+        return 1e-6;
+    }
+    if second {
+        bias_eps((k - 4) % 4)
+    } else {
+        bias_eps((k - 4) % 2)
+    }
+}
+
+fn perturbed(x: [f64; PARAMS], k: usize, eps: f64) -> [f64; PARAMS]
+    requires { ⌜ k < 68 ⌝ }
+    ensures { λ r. ⌜ r ≡ perturbedOf x k eps ⌝ }
+{
+    let mut y = x;
+    y[k] = y[k] + eps;
+    y
+}
+
+fn put_entry(r: &[f64], column: &[f64], n: usize, eps: f64, k: usize, row: usize, table: &mut [f64])
+    requires { ⌜ Grid (length (now r)) n (now table) × (length (now column) ≡ length (now r)) × (k < n) × (row < length (now r)) ⌝ }
+    ensures { λ _. ⌜ now (table .exit) ≡ putEntry n eps k (now (r .entry)) (now (column .entry)) row (now (table .entry)) ⌝ }
+{
+    let q = normal::place(r.len(), n, row, k);
+    table[q] = (column[row] - r[row]) / eps;
+}
+
+fn put_column(r: &[f64], column: &[f64], n: usize, eps: f64, k: usize, table: &mut [f64])
+    requires { ⌜ Grid (length (now r)) n (now table) × (length (now column) ≡ length (now r)) × (k < n) ⌝ }
+    ensures { λ _. ⌜ now (table .exit) ≡ for 0 (length (now (r .entry))) (putEntry n eps k (now (r .entry)) (now (column .entry))) (now (table .entry)) ⌝ }
+{
+    for row in 0..r.len() {
+        put_entry(r, column, n, eps, k, row, table);
+    }
+}
+
+// Column k of the table. False where a moment is too far off.
+fn jacobian_column(
+    second: bool,
+    counts: &[u32],
+    times: &[u64],
+    freqs: &[f64],
+    turns: &[f64],
+    g: Station,
+    x: [f64; PARAMS],
+    r: &[f64],
+    n: usize,
+    k: usize,
+    table: &mut [f64],
+) -> bool
+    requires { ⌜ Samples g (passesOf (now counts) (now times) (now freqs)) (now turns) × Grid (length (now r)) n (now table)
+        × (length (now r) ≡ rowsOf second (length (now times)) (length (now counts))) × (k < n) ⌝ }
+    ensures { λ ok. ⌜ Made ok (now (table .exit)) (columnOf (epsOf second) (residuals second g (passesOf (now (counts .entry)) (now (times .entry)) (now (freqs .entry))))
+        x (now (r .entry)) (length (now (r .entry))) n k (now (table .entry))) ⌝ }
+{
+    let eps = param_eps(second, k);
+    let y = perturbed(x, k, eps);
+    let mut column = [0.0; ROWS];
+    let refusal = residuals::residuals_into(second, counts, times, freqs, turns, g, y, &mut column);
+    if refusal != 0 {
+        return false;
+    }
+    let m = r.len();
+    put_column(r, &column[..m], n, eps, k, table);
+    true
+}
+
+// The table, column by column.
+fn jacobian(
+    second: bool,
+    counts: &[u32],
+    times: &[u64],
+    freqs: &[f64],
+    turns: &[f64],
+    g: Station,
+    x: [f64; PARAMS],
+    r: &[f64],
+    n: usize,
+    table: &mut [f64],
+) -> bool
+    requires { ⌜ Samples g (passesOf (now counts) (now times) (now freqs)) (now turns) × Grid (length (now r)) n (now table)
+        × (length (now r) ≡ rowsOf second (length (now times)) (length (now counts))) ⌝ }
+    ensures { λ ok. ⌜ Made ok (now (table .exit)) (try 0 n (columnOf (epsOf second) (residuals second g (passesOf (now (counts .entry)) (now (times .entry)) (now (freqs .entry))))
+        x (now (r .entry)) (length (now (r .entry))) n) (now (table .entry))) ⌝ }
+{
+    for k in 0..n {
+        if !jacobian_column(second, counts, times, freqs, turns, g, x, r, n, k, table) {
+            return false;
+        }
+    }
+    true
+}
+
+// What follows a trial that leaves the set params, its residuals r and the damping lambda. The table lies in the first places
+// of scratch; what is left there is not promised, since the fit clears it.
+pub fn advance(
+    second: bool,
+    counts: &[u32],
+    times: &[u64],
+    freqs: &[f64],
+    turns: &[f64],
+    g: Station,
+    params: [f64; PARAMS],
+    lambda: f64,
+    r: &[f64],
+    scratch: &mut [f64],
+) -> Stepped
+    requires { ⌜ Ready second g (passesOf (now counts) (now times) (now freqs)) (now turns) params (now r) (length (now scratch)) ⌝ }
+    ensures { λ s. ⌜ outcomeOf s ≡ advanceOf second g (passesOf (now (counts .entry)) (now (times .entry)) (now (freqs .entry))) lambda params ⌝ }
+{
+    let n = residuals::place_of(second, counts.len());
+    let cells = r.len() * n;
+    if !jacobian(
+        second,
+        counts,
+        times,
+        freqs,
+        turns,
+        g,
+        params,
+        r,
+        n,
+        &mut scratch[..cells],
+    ) {
+        return Stepped {
+            step: Step::TooFar,
+            params,
+        };
+    }
+    normal::damped_step(second, &scratch[..cells], r, n, lambda, params)
+}

@@ -1,0 +1,40 @@
+-- `biases_of` meets its contract. Assumes nothing.
+use Rattle.residuals.specs.Residuals.{biasesOf}
+use borrow.Author.Needs.{needs}
+use Rattle.residuals.proofs.biases_of.Statement.{statement}
+use Rattle.residuals.proofs.biases_of.Tie as tie
+
+returns : tie.Need-returns
+unfolding biasesOf
+returns c = rw (c .if1 .taken)
+
+returns-2 : tie.Need-returns-2
+unfolding biasesOf
+returns-2 c = rw (c .if1 .left)
+
+pub biases-of-spec : {M : Type 1} → statement M
+biases-of-spec =
+    tie.close
+    (tie.spec
+    (λ c. search needs)
+    (λ c. search needs)
+    (λ c. search needs)
+    (λ c. search needs)
+    (λ c. search needs)
+    (λ c. search needs)
+    (λ c. search needs)
+    (λ c. search needs)
+    (λ c. search needs)
+    (λ c. search needs)
+    (λ c. search needs)
+    (λ c. search needs)
+    (λ c. search needs)
+    (λ c. search needs)
+    (λ c. search needs)
+    (λ c. search needs)
+    (λ c. search needs)
+    (λ c. search needs)
+    (λ c. search needs)
+    (λ c. search needs)
+    returns
+    returns-2)

@@ -1,0 +1,65 @@
+-- A fit's samples, and what its predictions share.
+use mathlib.Core.Path.{_≡_}
+use mathlib.Core.List.{List, [], _∷_}
+use Prim.Native.Nat.{ℕ, _+_, _*_, _/_, _%_, _≤_, _<_}
+use lib.IntN.{ℤ}
+use lib.ListN.{length, getD}
+use lib.Ieee.{Float, nan}
+use Rattle.float.specs.declared.trig.SinCos.{SinCos}
+use Rattle.moment.specs.Time.{nanosOf, Sound}
+use Rattle.moment.specs.Sample.{shifted}
+use Rattle.moment.specs.declared.Instant.{Instant}
+use Rattle.frame.specs.Rotation.{turnAt}
+use Rattle.pass_set.specs.PassSet.{total}
+use Rattle.residuals.specs.declared.Station.{Station}
+
+-- How many samples each pass has, and of each sample its moment and its frequency. Passes without samples are dropped before.
+-- A moment is counted in nanoseconds from 4·10^9 s before 1970 on.
+pub record Passes : Type 0 where
+  pub counts : List ℕ
+  pub times : List ℕ
+  pub freqs : List Float
+
+-- a sample time's count, of a time in range; and of all
+abbrev pub countAt : ℤ → ℕ
+countAt t = shifted 4000000000000000000 t
+
+unfoldable pub countsAt : List ℤ → List ℕ
+countsAt [] = []
+countsAt (t ∷ ts) = countAt t ∷ countsAt ts
+
+abbrev pub passesOf : List ℕ → List ℕ → List Float → Passes
+passesOf counts times freqs = record { counts = counts; times = times; freqs = freqs }
+
+-- such a moment by seconds from 2^44 s before 1970 on, and by nanoseconds from there
+unfoldable pub instantOf : ℕ → Instant
+instantOf n = record { secs = n / 1000000000 + 17588186044416; nanos = n % 1000000000 }
+
+unfoldable pub nanosAt : ℕ → ℕ
+nanosAt n = nanosOf (instantOf n .secs) (instantOf n .nanos)
+
+-- the Earth's rotation then
+unfoldable pub rotationAt : ℕ → SinCos
+rotationAt n = turnAt (instantOf n .secs) (instantOf n .nanos)
+
+-- every moment is from 1957-01-01 on and before 2057-01-01: no refusal 4
+pub record Dated (times : List ℕ) : Type 0 where
+  pub each : (k : ℕ) → k < length times → (3589772800000000000 ≤ getD times k 0) × (getD times k 0 < 6745532800000000000)
+
+-- the k-th sine and cosine of a list of both
+abbrev pub turnIn : List Float → ℕ → SinCos
+turnIn turns k = record { sin = getD turns (2 * k) nan; cos = getD turns (2 * k + 1) nan }
+
+-- every sample's rotation is in the list
+pub record Rotations (times : List ℕ) (turns : List Float) : Type 0 where
+  pub room : 2 * length times ≤ length turns
+  pub each : (k : ℕ) → k < length times → turnIn turns k ≡ rotationAt (getD times k 0)
+
+-- what the functions on a fit's samples ask: at most 16 passes and 4,096 samples, and the rotations of these
+pub record Samples (g : Station) (d : Passes) (turns : List Float) : Type 0 where
+  pub epoch : Sound (g .epoch .secs) (g .epoch .nanos)
+  pub few : length (d .counts) ≤ 16
+  pub small : length (d .times) ≤ 4096
+  pub whole : total (d .counts) ≡ length (d .times)
+  pub pairs : length (d .freqs) ≡ length (d .times)
+  pub turned : Rotations (d .times) turns
