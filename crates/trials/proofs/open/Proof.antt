@@ -1,0 +1,14 @@
+-- `open` meets its contract. Assumes nothing.
+use lib.Ieee.{ofBits, round}
+use Rattle.float.specs.Ops.{one}
+use Rattle.book.specs.Book.{largest, opening}
+use mathlib.Core.Path.{refl}
+use Rattle.trials.proofs.open.Statement.{statement}
+use Rattle.trials.proofs.open.Tie as tie
+
+returns : tie.Need-returns
+unfolding opening one largest ofBits round
+returns c = refl
+
+pub open-spec : {M : Type 1} → statement M
+open-spec = tie.close (tie.spec returns)
