@@ -1,0 +1,136 @@
+-- Document 01's example, by computation: epoch 2026-06-12T00:00:00Z, a = 7,000,000 m, i = π/2, other angles 0. Assumes nothing.
+use mathlib.Core.Path.{_≡_, refl, sym, ap, _∙_}
+use mathlib.Core.List.{List, [], _∷_}
+use Prim.Native.Nat.{ℕ, zero, suc, _-_, _/_, _%_}
+use lib.Dec.{lit<, lit≤}
+use lib.IntN.{pos, negsuc}
+use lib.ListN.{take}
+use lib.Ieee.{Float, nan, add, mul, div, rem, lt, round, ofInt, ofBits}
+use Rattle.float.specs.Ops.{_⊕_, bits, remEuclidOf, degreesOf, degreesPerRadian}
+use Rattle.float.specs.Trig.{full}
+use Rattle.roots.specs.Root.{sqrtOf}
+use Rattle.decimal.specs.Fixed.{decimal, text, cellAt}
+use Rattle.moment.specs.Time.{secondsOf}
+use Rattle.moment.specs.Range.{inRange}
+use Rattle.moment.specs.Calendar.{leap, monthLength, monthsLength, dateOf, ordinalOf}
+use Rattle.moment.specs.declared.Moment.{Moment}
+use Rattle.moment.specs.declared.calendar.Date.{Date}
+use Rattle.moment.proofs.Days.{from-march, from-january}
+use Rattle.tle.specs.Elements.{fullCircle, printedDegrees, mu, secondsPerDay, meanMotionOf, secondsPerHour, secondsPerMinute, nanosPerSecond, ofNat, dayFraction, epochAt, epochOf}
+use Rattle.tle.specs.Answer.{leastRadius, greatestRadius, halfTurn, angleFits, radiusFits, inclinationFits, orbitFits, visible, nameFits, refusalOf}
+use Rattle.tle.specs.Lines.{body1, body2, sumOf, checksumOf, closed, line1, line2}
+use Rattle.solution.specs.declared.SolvedOrbit.{SolvedOrbit}
+use Rattle.tle.specs.declared.elements.Epoch.{Epoch}
+
+abbrev pub epoch : Moment
+epoch = record { seconds = pos 1781222400; nanos = 0 }
+
+abbrev pub orbit : SolvedOrbit
+orbit = record { a = bits 0x415ab3f000000000; i = bits 0x3ff921fb54442d18; raan0 = bits 0; u0 = bits 0; epoch = epoch }
+
+-- `1 99999U 26999A   26163.00000000  .00000000  00000-0  00000-0 0  9998`
+abbrev pub first-line : List ℕ
+first-line = 49 ∷ 32 ∷ 57 ∷ 57 ∷ 57 ∷ 57 ∷ 57 ∷ 85 ∷ 32 ∷ 50 ∷ 54 ∷ 57 ∷ 57 ∷ 57 ∷ 65 ∷ 32 ∷ 32 ∷ 32 ∷ 50 ∷ 54 ∷ 49 ∷ 54 ∷ 51 ∷ 46 ∷ 48 ∷ 48 ∷ 48 ∷ 48 ∷ 48 ∷ 48 ∷ 48 ∷ 48 ∷ 32 ∷ 32 ∷ 46 ∷ 48 ∷ 48 ∷ 48 ∷ 48 ∷ 48 ∷ 48 ∷ 48 ∷ 48 ∷ 32 ∷ 32 ∷ 48 ∷ 48 ∷ 48 ∷ 48 ∷ 48 ∷ 45 ∷ 48 ∷ 32 ∷ 32 ∷ 48 ∷ 48 ∷ 48 ∷ 48 ∷ 48 ∷ 45 ∷ 48 ∷ 32 ∷ 48 ∷ 32 ∷ 32 ∷ 57 ∷ 57 ∷ 57 ∷ 56 ∷ []
+
+-- `2 99999  90.0000   0.0000 0000000   0.0000   0.0000 14.82366876000007`
+abbrev pub second-line : List ℕ
+second-line = 50 ∷ 32 ∷ 57 ∷ 57 ∷ 57 ∷ 57 ∷ 57 ∷ 32 ∷ 32 ∷ 57 ∷ 48 ∷ 46 ∷ 48 ∷ 48 ∷ 48 ∷ 48 ∷ 32 ∷ 32 ∷ 32 ∷ 48 ∷ 46 ∷ 48 ∷ 48 ∷ 48 ∷ 48 ∷ 32 ∷ 48 ∷ 48 ∷ 48 ∷ 48 ∷ 48 ∷ 48 ∷ 48 ∷ 32 ∷ 32 ∷ 32 ∷ 48 ∷ 46 ∷ 48 ∷ 48 ∷ 48 ∷ 48 ∷ 32 ∷ 32 ∷ 32 ∷ 48 ∷ 46 ∷ 48 ∷ 48 ∷ 48 ∷ 48 ∷ 32 ∷ 49 ∷ 52 ∷ 46 ∷ 56 ∷ 50 ∷ 51 ∷ 54 ∷ 54 ∷ 56 ∷ 55 ∷ 54 ∷ 48 ∷ 48 ∷ 48 ∷ 48 ∷ 48 ∷ 55 ∷ []
+
+pub checksum-8 : checksumOf (take 68 first-line) ≡ 8
+unfolding checksumOf sumOf
+checksum-8 = refl
+
+pub checksum-7 : checksumOf (take 68 second-line) ≡ 7
+unfolding checksumOf sumOf
+checksum-7 = refl
+
+-- ---- dates and times
+
+-- a moment on the day d
+epoch-on : (t : Moment) (d : Date) → let s = secondsOf (t .seconds) - 17591749378816 in dateOf (s / 86400) ≡ d
+    → epochOf t ≡ record { year = d .year; day = ofNat (ordinalOf d) ⊕ dayFraction (s % 86400) (t .nanos) }
+unfolding epochAt
+epoch-on t d h = simp h
+
+-- the day 25,670 after 1956-03-01
+june-12 : dateOf 25670 ≡ record { year = 2026; month = 6; day = 12 }
+june-12 = sym (from-march 25670 2 (lit< tt) refl (lit< tt))
+
+epoch-is : epochOf epoch ≡ record { year = 2026; day = bits 0x4064600000000000 }
+unfolding secondsOf dayFraction ordinalOf leap monthsLength monthLength secondsPerHour secondsPerMinute nanosPerSecond secondsPerDay add mul div round ofInt ofBits
+epoch-is = epoch-on epoch (record { year = 2026; month = 6; day = 12 }) june-12
+
+-- ---- the lines
+example-day : line1 (record { year = 2026; day = bits 0x4064600000000000 }) ≡ first-line
+unfolding line1 closed body1 text cellAt checksumOf sumOf round ofBits
+example-day = refl
+
+pub example-1 : line1 (epochOf epoch) ≡ first-line
+example-1 = ap line1 epoch-is ∙ example-day
+
+pub example-2 : line2 orbit ≡ second-line
+unfolding line2 closed body2 text cellAt checksumOf sumOf printedDegrees degreesOf degreesPerRadian fullCircle remEuclidOf meanMotionOf mu secondsPerDay full sqrtOf add mul div rem lt round ofBits
+example-2 = refl
+
+-- ---- the first and the last moments of years: 001.00000000 in 1957, 366.00000000 in 2026 and 367.00000000 in 2056
+abbrev day-text : Float → List ℕ
+day-text v = text 48 8 (decimal 8 v) 12
+
+january-1 : dateOf 306 ≡ record { year = 1957; month = 1; day = 1 }
+january-1 = sym (from-january 306 0 (lit< tt) refl (lit≤ tt))
+
+first-moment : day-text (epochOf (record { seconds = negsuc 410227199; nanos = 0 }) .day) ≡ 48 ∷ 48 ∷ 49 ∷ 46 ∷ 48 ∷ 48 ∷ 48 ∷ 48 ∷ 48 ∷ 48 ∷ 48 ∷ 48 ∷ []
+unfolding text cellAt secondsOf dayFraction ordinalOf leap monthsLength monthLength secondsPerHour secondsPerMinute nanosPerSecond secondsPerDay add mul div round ofInt ofBits
+first-moment = ap (λ (e : Epoch). day-text (e .day)) (epoch-on (record { seconds = negsuc 410227199; nanos = 0 }) (record { year = 1957; month = 1; day = 1 }) january-1)
+
+december-31 : dateOf 25872 ≡ record { year = 2026; month = 12; day = 31 }
+december-31 = sym (from-march 25872 2 (lit< tt) refl (lit< tt))
+
+last-of-2026 : day-text (epochOf (record { seconds = pos 1798761599; nanos = 999999999 }) .day) ≡ 51 ∷ 54 ∷ 54 ∷ 46 ∷ 48 ∷ 48 ∷ 48 ∷ 48 ∷ 48 ∷ 48 ∷ 48 ∷ 48 ∷ []
+unfolding text cellAt secondsOf dayFraction ordinalOf leap monthsLength monthLength secondsPerHour secondsPerMinute nanosPerSecond secondsPerDay add mul div round ofInt ofBits
+last-of-2026 = ap (λ (e : Epoch). day-text (e .day)) (epoch-on (record { seconds = pos 1798761599; nanos = 999999999 }) (record { year = 2026; month = 12; day = 31 }) december-31)
+
+december-31-2056 : dateOf 36830 ≡ record { year = 2056; month = 12; day = 31 }
+december-31-2056 = sym (from-march 36830 0 (lit< tt) refl (lit< tt))
+
+last-moment : day-text (epochOf (record { seconds = pos 2745532799; nanos = 999999999 }) .day) ≡ 51 ∷ 54 ∷ 55 ∷ 46 ∷ 48 ∷ 48 ∷ 48 ∷ 48 ∷ 48 ∷ 48 ∷ 48 ∷ 48 ∷ []
+unfolding text cellAt secondsOf dayFraction ordinalOf leap monthsLength monthLength secondsPerHour secondsPerMinute nanosPerSecond secondsPerDay add mul div round ofInt ofBits
+last-moment = ap (λ (e : Epoch). day-text (e .day)) (epoch-on (record { seconds = pos 2745532799; nanos = 999999999 }) (record { year = 2056; month = 12; day = 31 }) december-31-2056)
+
+-- ---- angles: −0.0 rad prints 0.0000, −1e-20 rad 360.0000, π rad 180.0000; of 0.03125 and 0.09375 degrees the even one
+abbrev angle-text : Float → List ℕ
+angle-text v = text 32 4 (decimal 4 v) 8
+
+minus-zero : angle-text (printedDegrees (bits 0x8000000000000000)) ≡ 32 ∷ 32 ∷ 48 ∷ 46 ∷ 48 ∷ 48 ∷ 48 ∷ 48 ∷ []
+unfolding text cellAt printedDegrees degreesOf degreesPerRadian fullCircle remEuclidOf add mul rem lt round ofBits
+minus-zero = refl
+
+just-below : angle-text (printedDegrees (bits 0xbbc79ca10c924223)) ≡ 51 ∷ 54 ∷ 48 ∷ 46 ∷ 48 ∷ 48 ∷ 48 ∷ 48 ∷ []
+unfolding text cellAt printedDegrees degreesOf degreesPerRadian fullCircle remEuclidOf add mul rem lt round ofBits
+just-below = refl
+
+half-turn : angle-text (printedDegrees (bits 0x400921fb54442d18)) ≡ 49 ∷ 56 ∷ 48 ∷ 46 ∷ 48 ∷ 48 ∷ 48 ∷ 48 ∷ []
+unfolding text cellAt printedDegrees degreesOf degreesPerRadian fullCircle remEuclidOf add mul rem lt round ofBits
+half-turn = refl
+
+tie-down : angle-text (bits 0x3fa0000000000000) ≡ 32 ∷ 32 ∷ 48 ∷ 46 ∷ 48 ∷ 51 ∷ 49 ∷ 50 ∷ []
+unfolding text cellAt round ofBits
+tie-down = refl
+
+tie-up : angle-text (bits 0x3fb8000000000000) ≡ 32 ∷ 32 ∷ 48 ∷ 46 ∷ 48 ∷ 57 ∷ 51 ∷ 56 ∷ []
+unfolding text cellAt round ofBits
+tie-up = refl
+
+-- ---- refusals: names of 0, 24 and 25 bytes, a byte 127, an output one byte short, the end of 2056 passed (before a bad name), a NaN, an infinite angle
+abbrev letters : ℕ → List ℕ
+letters zero = []
+letters (suc n) = 65 ∷ letters n
+
+refusals :
+    refusalOf [] orbit 141 ∷ refusalOf (letters 24) orbit 165 ∷ refusalOf (letters 25) orbit 200 ∷ refusalOf (127 ∷ []) orbit 200 ∷ refusalOf (letters 24) orbit 164
+    ∷ refusalOf (letters 25) (record { a = orbit .a; i = orbit .i; raan0 = orbit .raan0; u0 = orbit .u0; epoch = record { seconds = pos 2745532800; nanos = 0 } }) 0
+    ∷ refusalOf [] (record { a = nan; i = orbit .i; raan0 = orbit .raan0; u0 = orbit .u0; epoch = epoch }) 0
+    ∷ refusalOf [] (record { a = orbit .a; i = orbit .i; raan0 = bits 0x7fac7b1f3cac7433; u0 = orbit .u0; epoch = epoch }) 141 ∷ []
+    ≡ 0 ∷ 0 ∷ 11 ∷ 11 ∷ 21 ∷ 4 ∷ 11 ∷ 11 ∷ []
+unfolding refusalOf orbitFits radiusFits inclinationFits angleFits leastRadius greatestRadius halfTurn nameFits visible inRange secondsOf degreesOf degreesPerRadian mul lt round ofBits
+refusals = refl

@@ -1,0 +1,9 @@
+pub mod Dates
+pub mod Texts
+pub mod Columns
+pub mod Values
+pub mod Ranges
+pub mod Accepted
+pub mod Answers
+pub mod Printed
+pub mod Examples

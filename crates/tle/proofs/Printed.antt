@@ -1,0 +1,275 @@
+-- The theorem of the lines: what they carry, for every orbit that is not refused. Assumes nothing.
+use mathlib.Core.Path.{_≡_, refl, sym, ap, _∙_, subst}
+use mathlib.Core.Logic.{_⊎_, inl, inr}
+use mathlib.Core.Bool.{Bool, true, false, not, _&&_, _||_, cond}
+use mathlib.Core.List.{List, [], _∷_, _++_, append-assoc}
+use Prim.Native.Nat.{ℕ, suc, _+_, _*_, _/_, _%_, _^_, _≤_, _<_}
+use native.Mathlib.Nat.{lt-of-le-of-lt, mod-lt}
+use native.Mathlib.Omega.{arith}
+use lib.Dec.{T, eqb, ltb, lit<, lit≤}
+use lib.ListN.{length, take, drop}
+use lib.Seq.{take-at, drop-append-add}
+use lib.Ieee.{Float}
+use Rattle.decimal.specs.Fixed.{decimal, digitAt, text}
+use Rattle.decimal.proofs.Theorems.{half-unit, decimal-le}
+use Rattle.moment.specs.Range.{taken, givenOf}
+use Rattle.moment.specs.declared.Moment.{Moment}
+use Rattle.moment.specs.Time.{secondsOf}
+use Rattle.moment.proofs.Ranges.{at-is}
+use Rattle.tle.specs.Elements.{printedDegrees, meanMotionOf, epochOf}
+use Rattle.tle.specs.Lines.{start1, rest1, start2, middle2, end2, body1, body2, checksumOf, closed, line1, line2, catalogOf}
+use Rattle.refusal.specs.Order as order
+use Rattle.refusal.specs.Order.{_if_}
+use Rattle.refusal.specs.Numbers.{moment-range, unprintable, short-memory}
+use Rattle.tle.specs.Answer.{orbitFits, nameFits, refusalOf, Formats}
+use Rattle.tle.specs.Printed.{Class, only, digit, padded, isDigit, admits, matches, exactly, columns1, columns2, value, numberIn, HalfUnit, Checked, Printed}
+use Rattle.solution.specs.declared.SolvedOrbit.{SolvedOrbit}
+use Rattle.tle.specs.declared.Catalog.{Catalog}
+use Rattle.tle.specs.declared.elements.Epoch.{Epoch}
+use Rattle.tle.proofs.Columns.{checksum-lt}
+use Rattle.tle.proofs.Ranges.{UpTo}
+use Rattle.tle.proofs.Accepted.{epoch-up, sound, angle-up, motion-up}
+use Rattle.tle.proofs.Answers.{line1-length, line2-length}
+use Rattle.tle.proofs.Values.{value-text, digit-value, is-digit, fieldClasses, text-matches, matches-append, matches-cons, exact}
+
+-- ---- numbers
+carries : (p pad w m : ℕ) (v : Float) (N : ℕ) → UpTo m v → (pad ≡ 32) ⊎ (pad ≡ 48) → p ≤ w → m * 10 ^ p < 10 ^ w → N ≡ value 0 (text pad p (decimal p v) (suc w)) → HalfUnit p v N
+carries p pad w m v N u q h l e =
+    let d : N ≡ decimal p v = e ∙ value-text pad p (decimal p v) w q h (lt-of-le-of-lt (decimal-le p m v (u .size)) l) in
+    let f = half-unit p v in
+    record { range = u .range; above = rw d (f .0); below = rw d (f .1) }
+
+none : (n : ℕ) → value n [] ≡ n
+unfolding value
+none n = refl
+
+checked : (n : ℕ) → n < 10 → value 0 ((n + 48) ∷ []) ≡ n
+checked n h = digit-value 0 n [] h ∙ none (0 * 10 + n) ∙ omega arith
+
+two-digits : (y : ℕ) → value 0 (digitAt y 1 ∷ digitAt y 0 ∷ []) ≡ y % 100
+two-digits y =
+    digit-value 0 (y / 10 ^ 1 % 10) (digitAt y 0 ∷ []) (mod-lt (y / 10 ^ 1) (lit< tt)) ∙ digit-value (0 * 10 + y / 10 ^ 1 % 10) (y / 10 ^ 0 % 10) [] (mod-lt (y / 10 ^ 0) (lit< tt))
+    ∙ none ((0 * 10 + y / 10 ^ 1 % 10) * 10 + y / 10 ^ 0 % 10) ∙ omega arith
+
+-- ---- columns
+blank-or : (c : ℕ) → T (isDigit c) → T (admits padded c)
+blank-or c t = go (isDigit c) (eqb c 32) t
+  where
+    go : (x y : Bool) → T x → T (x || y)
+    go true y t = tt
+    go false y t = absurd t
+
+angle-columns : (n : ℕ) → T (matches (fieldClasses padded 4 8) (text 32 4 n 8))
+angle-columns n = text-matches padded 32 4 n tt blank-or 8
+
+motion-columns : (n : ℕ) → T (matches (fieldClasses padded 8 11) (text 32 8 n 11))
+motion-columns n = text-matches padded 32 8 n tt blank-or 11
+
+ends : T (matches [] [])
+unfolding matches
+ends = tt
+
+-- the checksum's column
+sum-column : (cs : ℕ) → cs < 10 → T (matches (digit ∷ []) ((cs + 48) ∷ []))
+sum-column cs h = matches-cons digit [] (cs + 48) [] (is-digit cs h) ends
+
+-- a blank
+blank : (ks : List Class) (l : List ℕ) → T (matches ks l) → T (matches (only 32 ∷ ks) (32 ∷ l))
+blank ks l t = matches-cons (only 32) ks 32 l tt t
+
+line1-columns : (year day cs : ℕ) → cs < 10
+    → T (matches columns1 (start1 ++ digitAt year 1 ∷ digitAt year 0 ∷ text 48 8 day 12 ++ rest1 ++ ((cs + 48) ∷ [])))
+unfolding columns1
+line1-columns year day cs h =
+    matches-append (exactly start1 ++ digit ∷ digit ∷ fieldClasses digit 8 12 ++ exactly rest1) (digit ∷ []) (start1 ++ digitAt year 1 ∷ digitAt year 0 ∷ text 48 8 day 12 ++ rest1) ((cs + 48) ∷ [])
+    (matches-append (exactly start1 ++ digit ∷ digit ∷ fieldClasses digit 8 12) (exactly rest1) (start1 ++ digitAt year 1 ∷ digitAt year 0 ∷ text 48 8 day 12) rest1
+    (matches-append (exactly start1) (digit ∷ digit ∷ fieldClasses digit 8 12) start1 (digitAt year 1 ∷ digitAt year 0 ∷ text 48 8 day 12) (exact start1)
+    (matches-cons digit (digit ∷ fieldClasses digit 8 12) (digitAt year 1) (digitAt year 0 ∷ text 48 8 day 12) (is-digit (year / 10 ^ 1 % 10) (mod-lt (year / 10 ^ 1) (lit< tt)))
+    (matches-cons digit (fieldClasses digit 8 12) (digitAt year 0) (text 48 8 day 12) (is-digit (year / 10 ^ 0 % 10) (mod-lt (year / 10 ^ 0) (lit< tt)))
+    (text-matches digit 48 8 day tt (λ c t. t) 12))))
+    (exact rest1))
+    (sum-column cs h)
+
+-- line 2 is put together from the right
+tail2 : (u n cs : ℕ) → cs < 10 → T (matches (exactly middle2 ++ (fieldClasses padded 4 8 ++ (only 32 ∷ (fieldClasses padded 8 11 ++ (exactly end2 ++ (digit ∷ []))))))
+    (middle2 ++ (text 32 4 u 8 ++ (32 ∷ (text 32 8 n 11 ++ (end2 ++ ((cs + 48) ∷ [])))))))
+tail2 u n cs h =
+    matches-append (exactly middle2) _ middle2 _ (exact middle2)
+    (matches-append (fieldClasses padded 4 8) _ (text 32 4 u 8) _ (angle-columns u)
+    (blank _ _ (matches-append (fieldClasses padded 8 11) _ (text 32 8 n 11) _ (motion-columns n) (matches-append (exactly end2) _ end2 _ (exact end2) (sum-column cs h)))))
+
+line2-columns : (i r u n cs : ℕ) → cs < 10
+    → T (matches columns2 (start2 ++ (text 32 4 i 8 ++ (32 ∷ (text 32 4 r 8 ++ (middle2 ++ (text 32 4 u 8 ++ (32 ∷ (text 32 8 n 11 ++ (end2 ++ ((cs + 48) ∷ [])))))))))))
+unfolding columns2
+line2-columns i r u n cs h =
+    matches-append (exactly start2) _ start2 _ (exact start2)
+    (matches-append (fieldClasses padded 4 8) _ (text 32 4 i 8) _ (angle-columns i)
+    (blank _ _ (matches-append (fieldClasses padded 4 8) _ (text 32 4 r 8) _ (angle-columns r) (tail2 u n cs h))))
+
+-- ---- each line
+record First (e : Epoch) (l : List ℕ) : Type 0 where
+  columns : T (matches columns1 l)
+  sum : Checked l
+  year : numberIn 19 20 l ≡ e .year % 100
+  day : HalfUnit 8 (e .day) (numberIn 21 32 l)
+
+body1-sum : (e : Epoch) → take 68 (line1 e) ≡ body1 (e .year) (e .day)
+unfolding line1 closed body1 text
+body1-sum e = refl
+
+line1-sum : (e : Epoch) → numberIn 69 69 (line1 e) ≡ value 0 ((checksumOf (body1 (e .year) (e .day)) + 48) ∷ [])
+unfolding numberIn line1 closed body1 text
+line1-sum e = refl
+
+line1-year : (e : Epoch) → numberIn 19 20 (line1 e) ≡ value 0 (digitAt (e .year) 1 ∷ digitAt (e .year) 0 ∷ [])
+unfolding numberIn line1 closed body1 text
+line1-year e = refl
+
+line1-day : (e : Epoch) → numberIn 21 32 (line1 e) ≡ value 0 (text 48 8 (decimal 8 (e .day)) 12)
+unfolding numberIn line1 closed body1 text
+line1-day e = refl
+
+line1-matches : (e : Epoch) → T (matches columns1 (line1 e))
+unfolding line1 closed body1
+line1-matches e = line1-columns (e .year) (decimal 8 (e .day)) (checksumOf (body1 (e .year) (e .day))) (checksum-lt (body1 (e .year) (e .day)))
+
+first : (e : Epoch) → UpTo 367 (e .day) → First e (line1 e)
+first e h =
+    let b = body1 (e .year) (e .day) in
+    record {
+      columns = line1-matches e;
+      sum = line1-sum e ∙ checked (checksumOf b) (checksum-lt b) ∙ sym (ap checksumOf (body1-sum e));
+      year = line1-year e ∙ two-digits (e .year);
+      day = carries 8 48 11 367 (e .day) _ h (inr refl) (lit≤ tt) (lit< tt) (line1-day e);
+    }
+
+record Second (o : SolvedOrbit) (l : List ℕ) : Type 0 where
+  columns : T (matches columns2 l)
+  sum : Checked l
+  inclination : HalfUnit 4 (printedDegrees (o .i)) (numberIn 9 16 l)
+  node : HalfUnit 4 (printedDegrees (o .raan0)) (numberIn 18 25 l)
+  eccentricity : numberIn 27 33 l ≡ 0
+  perigee : numberIn 35 42 l ≡ 0
+  anomaly : HalfUnit 4 (printedDegrees (o .u0)) (numberIn 44 51 l)
+  motion : HalfUnit 8 (meanMotionOf (o .a)) (numberIn 53 63 l)
+  revolution : numberIn 64 68 l ≡ 0
+
+abbrev bodyOf : SolvedOrbit → List ℕ
+bodyOf o = body2 (printedDegrees (o .i)) (printedDegrees (o .raan0)) (printedDegrees (o .u0)) (meanMotionOf (o .a))
+
+body2-sum : (o : SolvedOrbit) → take 68 (line2 o) ≡ bodyOf o
+unfolding line2 closed body2 text
+body2-sum o = refl
+
+line2-sum : (o : SolvedOrbit) → numberIn 69 69 (line2 o) ≡ value 0 ((checksumOf (bodyOf o) + 48) ∷ [])
+unfolding numberIn line2 closed body2 text
+line2-sum o = refl
+
+line2-i : (o : SolvedOrbit) → numberIn 9 16 (line2 o) ≡ value 0 (text 32 4 (decimal 4 (printedDegrees (o .i))) 8)
+unfolding numberIn line2 closed body2 text
+line2-i o = refl
+
+line2-raan : (o : SolvedOrbit) → numberIn 18 25 (line2 o) ≡ value 0 (text 32 4 (decimal 4 (printedDegrees (o .raan0))) 8)
+unfolding numberIn line2 closed body2 text
+line2-raan o = refl
+
+line2-u : (o : SolvedOrbit) → numberIn 44 51 (line2 o) ≡ value 0 (text 32 4 (decimal 4 (printedDegrees (o .u0))) 8)
+unfolding numberIn line2 closed body2 text
+line2-u o = refl
+
+line2-n : (o : SolvedOrbit) → numberIn 53 63 (line2 o) ≡ value 0 (text 32 8 (decimal 8 (meanMotionOf (o .a))) 11)
+unfolding numberIn line2 closed body2 text
+line2-n o = refl
+
+zeros : (o : SolvedOrbit) → (numberIn 27 33 (line2 o) ≡ 0) × (numberIn 35 42 (line2 o) ≡ 0) × (numberIn 64 68 (line2 o) ≡ 0)
+unfolding numberIn line2 closed body2 text value
+zeros o = (refl, refl, refl)
+
+line2-is : (o : SolvedOrbit)
+    → start2 ++ (text 32 4 (decimal 4 (printedDegrees (o .i))) 8 ++ (32 ∷ (text 32 4 (decimal 4 (printedDegrees (o .raan0))) 8 ++ (middle2
+    ++ (text 32 4 (decimal 4 (printedDegrees (o .u0))) 8 ++ (32 ∷ (text 32 8 (decimal 8 (meanMotionOf (o .a))) 11 ++ (end2 ++ ((checksumOf (bodyOf o) + 48) ∷ []))))))))) ≡ line2 o
+unfolding line2 closed body2 text
+line2-is o = refl
+
+line2-matches : (o : SolvedOrbit) → T (matches columns2 (line2 o))
+line2-matches o =
+    subst (λ (l : List ℕ). T (matches columns2 l)) (line2-is o)
+    (line2-columns (decimal 4 (printedDegrees (o .i))) (decimal 4 (printedDegrees (o .raan0))) (decimal 4 (printedDegrees (o .u0))) (decimal 8 (meanMotionOf (o .a))) (checksumOf (bodyOf o)) (checksum-lt (bodyOf o)))
+
+second : (o : SolvedOrbit) → T (orbitFits o) → Second o (line2 o)
+second o h =
+    let b = bodyOf o in
+    let s = sound o h in
+    let z = zeros o in
+    record {
+      columns = line2-matches o;
+      sum = line2-sum o ∙ checked (checksumOf b) (checksum-lt b) ∙ sym (ap checksumOf (body2-sum o));
+      inclination = carries 4 32 7 360 (printedDegrees (o .i)) _ (angle-up (o .i) (s .i-fits)) (inl refl) (lit≤ tt) (lit< tt) (line2-i o);
+      node = carries 4 32 7 360 (printedDegrees (o .raan0)) _ (angle-up (o .raan0) (s .raan0-fits)) (inl refl) (lit≤ tt) (lit< tt) (line2-raan o);
+      eccentricity = z .0;
+      perigee = z .1;
+      anomaly = carries 4 32 7 360 (printedDegrees (o .u0)) _ (angle-up (o .u0) (s .u0-fits)) (inl refl) (lit≤ tt) (lit< tt) (line2-u o);
+      motion = carries 8 32 10 54 (meanMotionOf (o .a)) _ (motion-up (o .a) (s .radius)) (inl refl) (lit≤ tt) (lit< tt) (line2-n o);
+      revolution = z .2;
+    }
+
+-- ---- the theorem
+epoch-fits : (t : Moment) → taken t ≡ true → UpTo 367 (epochOf t .day)
+unfolding givenOf
+epoch-fits t h = epoch-up (secondsOf (t .seconds)) (t .nanos) (at-is (t .seconds) (t .nanos) (record { secs = secondsOf (t .seconds); nanos = t .nanos }) (simp h) .accepted)
+
+pub printed : (o : SolvedOrbit) → taken (o .epoch) ≡ true → T (orbitFits o) → Printed o (line1 (epochOf (o .epoch))) (line2 o)
+printed o h g =
+    let a = first (epochOf (o .epoch)) (epoch-fits (o .epoch) h) in
+    let b = second o g in
+    record {
+      length-1 = line1-length (epochOf (o .epoch));
+      length-2 = line2-length o;
+      columns-1 = a .columns;
+      columns-2 = b .columns;
+      checksum-1 = a .sum;
+      checksum-2 = b .sum;
+      year = a .year;
+      day-of-year = a .day;
+      inclination = b .inclination;
+      node = b .node;
+      eccentricity = b .eccentricity;
+      perigee = b .perigee;
+      mean-anomaly = b .anomaly;
+      mean-motion = b .motion;
+      revolution = b .revolution;
+    }
+
+-- ---- the same of the bytes that a call leaves in `out`
+passed : (a b c d : Bool) → order.first ((moment-range if not a) ∷ (unprintable if not (b && c)) ∷ (short-memory if d) ∷ []) ≡ 0 → (a ≡ true) × T b
+passed true true c d e = (refl, tt)
+passed true false c d e = absurd (omega arith)
+passed false b c d e = absurd (omega arith)
+
+accepted : (name : List ℕ) (o : SolvedOrbit) (room : ℕ) → refusalOf name o room ≡ 0 → (taken (o .epoch) ≡ true) × T (orbitFits o)
+unfolding refusalOf
+accepted name o room e = passed (taken (o .epoch)) (orbitFits o) (nameFits name) (ltb room (length name + 141)) e
+
+catalog-is : (name rest : List ℕ) (o : SolvedOrbit) → catalogOf name o ++ rest ≡ name ++ (10 ∷ (line1 (epochOf (o .epoch)) ++ (10 ∷ (line2 o ++ (10 ∷ rest)))))
+unfolding catalogOf
+catalog-is name rest o = simp append-assoc
+
+first-at : (name l q : List ℕ) → length l ≡ 69 → take 69 (drop (length name + 1) (name ++ (10 ∷ (l ++ q)))) ≡ l
+first-at name l q h = ap (take 69) (drop-append-add name (10 ∷ (l ++ q)) 1) ∙ take-at l q 69 h
+
+second-at : (name k l q : List ℕ) → length k ≡ 69 → length l ≡ 69 → take 69 (drop (length name + 71) (name ++ (10 ∷ (k ++ (10 ∷ (l ++ q)))))) ≡ l
+second-at name k l q h g =
+    let e : length k + 1 ≡ 70 = omega arith in
+    ap (take 69) (drop-append-add name (10 ∷ (k ++ (10 ∷ (l ++ q)))) 71 ∙ ap (λ (n : ℕ). drop n (k ++ (10 ∷ (l ++ q)))) (sym e) ∙ drop-append-add k (10 ∷ (l ++ q)) 1) ∙ take-at l q 69 g
+
+pub format-printed : (name out out′ : List ℕ) (o : SolvedOrbit) (r : Catalog) → Formats name o out out′ r → r .refusal ≡ 0
+    → Printed o (take 69 (drop (length name + 1) out′)) (take 69 (drop (length name + 71) out′))
+format-printed name out out′ o r f z =
+    let e : refusalOf name o (length out) ≡ 0 = sym (f .refusal) ∙ z in
+    let a = accepted name o (length out) e in
+    let rest = drop (length name + 141) out in
+    let t : out′ ≡ name ++ (10 ∷ (line1 (epochOf (o .epoch)) ++ (10 ∷ (line2 o ++ (10 ∷ rest))))) =
+    f .text ∙ ap (λ (n : ℕ). cond (eqb n 0) (catalogOf name o ++ rest) out) e ∙ catalog-is name rest o in
+    subst (λ (l : List ℕ). Printed o l (take 69 (drop (length name + 71) out′))) (sym (ap (λ (x : List ℕ). take 69 (drop (length name + 1) x)) t ∙ first-at name (line1 (epochOf (o .epoch))) (10 ∷ (line2 o ++ (10 ∷ rest))) (line1-length (epochOf (o .epoch)))))
+    (subst (λ (l : List ℕ). Printed o (line1 (epochOf (o .epoch))) l) (sym (ap (λ (x : List ℕ). take 69 (drop (length name + 71) x)) t ∙ second-at name (line1 (epochOf (o .epoch))) (line2 o) (10 ∷ rest) (line1-length (epochOf (o .epoch))) (line2-length o)))
+    (printed o (a .0) (a .1)))

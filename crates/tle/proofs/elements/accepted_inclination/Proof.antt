@@ -1,0 +1,22 @@
+use Rattle.tle.specs.Answer.{halfTurn-bits, inclinationFits}
+use borrow.Author.Needs.{needs}
+use Rattle.tle.proofs.elements.accepted_inclination.Statement.{statement}
+use Rattle.tle.proofs.elements.accepted_inclination.Tie as tie
+
+accepted-angle-requires : tie.Need-accepted-angle-requires
+accepted-angle-requires c κs = search needs
+
+inside-of-requires : tie.Need-inside-of-requires
+inside-of-requires c κs = search needs
+
+returns : tie.Need-returns
+unfolding inclinationFits
+returns c = simp (c .inside-of .ensures, halfTurn-bits, ← c .before .before .accepted-angle .ensures, c .before .if1 .taken)
+
+returns-2 : tie.Need-returns-2
+unfolding inclinationFits
+returns-2 c = simp (← c .before .accepted-angle .ensures, c .if1 .left)
+
+pub accepted-inclination-spec : {M : Type 1} → statement M
+accepted-inclination-spec =
+    tie.close (tie.spec accepted-angle-requires inside-of-requires returns returns-2)

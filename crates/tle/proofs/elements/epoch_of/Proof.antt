@@ -1,0 +1,53 @@
+use mathlib.Core.Path.{_≡_}
+use Prim.Native.Nat.{ℕ, _-_, _/_, _%_}
+use lib.Ieee.{Float}
+use Rattle.float.specs.Ops.{_⊕_}
+use Rattle.moment.specs.Calendar.{dateOf, ordinalOf}
+use Rattle.moment.specs.declared.calendar.Date.{Date}
+use Rattle.tle.specs.Elements.{ofNat, dayFraction, epochAt}
+use Rattle.tle.specs.declared.elements.Epoch.{Epoch}
+use Rattle.tle.proofs.Dates.{in-year}
+use borrow.Author.Needs.{needs}
+use Rattle.tle.proofs.elements.epoch_of.Statement.{statement}
+use Rattle.tle.proofs.elements.epoch_of.Tie as tie
+
+sub-s : tie.Need-sub-s
+sub-s c = search needs
+
+date-of-requires : tie.Need-date-of-requires
+date-of-requires c κs = search needs
+
+ordinal-requires : tie.Need-ordinal-requires
+ordinal-requires c κs = in-year _ (c .date-of .result) (c .date-of .ensures)
+
+int-to-float-day-of-year : tie.Need-int-to-float-day-of-year
+int-to-float-day-of-year c = search needs
+
+cast-day-fraction : tie.Need-cast-day-fraction
+cast-day-fraction c = search needs
+
+day-fraction-requires : tie.Need-day-fraction-requires
+day-fraction-requires c κs = search needs
+
+made : (secs nanos : ℕ) (d : Date) (o : ℕ) (f : Float) → let s = secs - 17591749378816 in d ≡ dateOf (s / 86400) → o ≡ ordinalOf d → f ≡ dayFraction (s % 86400) nanos
+    → _≡_ {A = Epoch} (record { year = d .year; day = ofNat o ⊕ f }) (epochAt secs nanos)
+unfolding epochAt
+made secs nanos d o f p q r = simp (r, q, p)
+
+returns : tie.Need-returns
+returns c =
+    let o = c .before .before in
+    let t = o .before .before .before .args .t in
+    made (t .secs) (t .nanos) (o .before .date-of .result) (o .ordinal .result) (c .day-fraction .result) (o .before .date-of .ensures) (o .ordinal .ensures) (c .day-fraction .ensures)
+
+pub epoch-of-spec : {M : Type 1} → statement M
+epoch-of-spec =
+    tie.close
+    (tie.spec
+    sub-s
+    date-of-requires
+    ordinal-requires
+    int-to-float-day-of-year
+    cast-day-fraction
+    day-fraction-requires
+    returns)

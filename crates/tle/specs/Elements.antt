@@ -1,0 +1,91 @@
+-- The numbers that the lines print, as the Rust has them at printing: from the given orbit and epoch, one rounding per
+-- operation, in the Rust's order.
+use Prim.Native.Nat.{ℕ, _-_, _/_, _%_}
+use mathlib.Core.Path.{_≡_, refl}
+use lib.IntN.{pos}
+use lib.Ieee.{Float, binary64, ofInt, ofBits, round}
+use Rattle.float.specs.Constant.{decimal}
+use Rattle.float.specs.Ops.{_⊕_, _⊗_, _⊘_, bits, remEuclidOf, degreesOf}
+use Rattle.float.specs.Trig.{full}
+use Rattle.roots.specs.Root.{sqrtOf}
+use Rattle.moment.specs.Time.{secondsOf}
+use Rattle.moment.specs.Calendar.{dateOf, ordinalOf}
+use Rattle.moment.specs.declared.Moment.{Moment}
+use Rattle.tle.specs.declared.elements.Epoch.{Epoch}
+
+-- ---- angles
+
+unfoldable pub fullCircle : Float
+fullCircle = decimal 360 0
+
+pub fullCircle-bits : bits 0x4076800000000000 ≡ fullCircle
+unfolding fullCircle ofBits round
+fullCircle-bits = refl
+
+-- an angle of so many radians, in degrees from 0 to 360
+unfoldable pub printedDegrees : Float → Float
+printedDegrees x = remEuclidOf (degreesOf x) fullCircle
+
+-- ---- revolutions a day
+
+-- the Earth's gravity, m^3/s^2
+unfoldable pub mu : Float
+mu = decimal 398600441800000 0
+
+pub mu-bits : bits 0x42f6a8665bda5400 ≡ mu
+unfolding mu ofBits round
+mu-bits = refl
+
+unfoldable pub secondsPerDay : Float
+secondsPerDay = decimal 86400 0
+
+pub secondsPerDay-bits : bits 0x40f5180000000000 ≡ secondsPerDay
+unfolding secondsPerDay ofBits round
+secondsPerDay-bits = refl
+
+-- radians a second, of the radius a (Kepler's third law), × 86400 / 2π
+unfoldable pub meanMotionOf : Float → Float
+meanMotionOf a = sqrtOf (mu ⊘ (a ⊗ a ⊗ a)) ⊗ secondsPerDay ⊘ full
+
+-- ---- year and day of the year
+
+unfoldable pub secondsPerHour : Float
+secondsPerHour = decimal 3600 0
+
+pub secondsPerHour-bits : bits 0x40ac200000000000 ≡ secondsPerHour
+unfolding secondsPerHour ofBits round
+secondsPerHour-bits = refl
+
+unfoldable pub secondsPerMinute : Float
+secondsPerMinute = decimal 60 0
+
+pub secondsPerMinute-bits : bits 0x404e000000000000 ≡ secondsPerMinute
+unfolding secondsPerMinute ofBits round
+secondsPerMinute-bits = refl
+
+unfoldable pub nanosPerSecond : Float
+nanosPerSecond = decimal 1000000000 0
+
+pub nanosPerSecond-bits : bits 0x41cdcd6500000000 ≡ nanosPerSecond
+unfolding nanosPerSecond ofBits round
+nanosPerSecond-bits = refl
+
+-- a whole number
+abbrev pub ofNat : ℕ → Float
+ofNat n = ofInt binary64 (pos n)
+
+-- the part of a day after so many seconds and nanoseconds
+unfoldable pub dayFraction : ℕ → ℕ → Float
+dayFraction secs nanos =
+    (ofNat (secs / 3600) ⊗ secondsPerHour ⊕ ofNat (secs / 60 % 60) ⊗ secondsPerMinute ⊕ ofNat (secs % 60) ⊕ ofNat nanos ⊘ nanosPerSecond)
+    ⊘ secondsPerDay
+
+-- of the moment secs − 2^44 seconds after 1970 and so many nanoseconds; 1956-03-01 is 17,591,749,378,816
+unfoldable pub epochAt : ℕ → ℕ → Epoch
+epochAt secs nanos =
+    let s = secs - 17591749378816 in
+    let date = dateOf (s / 86400) in
+    record { year = date .year; day = ofNat (ordinalOf date) ⊕ dayFraction (s % 86400) nanos }
+
+abbrev pub epochOf : Moment → Epoch
+epochOf t = epochAt (secondsOf (t .seconds)) (t .nanos)

@@ -1,0 +1,4 @@
+pub mod Elements
+pub mod Lines
+pub mod Answer
+pub mod Printed

@@ -1,0 +1,89 @@
+-- What the two lines carry: demand 3's claim about the lines, over their bytes alone. Columns are counted from 1, as the format does.
+use mathlib.Core.Path.{_≡_}
+use mathlib.Core.Bool.{Bool, true, false, _&&_, _||_, cond}
+use mathlib.Core.List.{List, [], _∷_, _++_}
+use Prim.Native.Nat.{ℕ, zero, suc, _+_, _-_, _*_, _%_, _^_, _≤_}
+use lib.Dec.{T, leb, eqb}
+use lib.ListN.{length, take, drop}
+use lib.Ieee.{Float}
+use lib.Ieee.Positive.{num, den}
+use Rattle.decimal.specs.Fixed.{within}
+use Rattle.tle.specs.Elements.{printedDegrees, meanMotionOf, epochOf}
+use Rattle.tle.specs.Lines.{start1, rest1, start2, middle2, end2, checksumOf}
+use Rattle.solution.specs.declared.SolvedOrbit.{SolvedOrbit}
+
+-- ---- what may stand in a column: one byte alone, a digit, or a digit or a blank
+pub data Class : Type 0 where
+  only : ℕ → Class
+  digit : Class
+  padded : Class
+
+abbrev pub isDigit : ℕ → Bool
+isDigit c = leb 48 c && leb c 57
+
+abbrev pub admits : Class → ℕ → Bool
+admits (only b) c = eqb c b
+admits digit c = isDigit c
+admits padded c = isDigit c || eqb c 32
+
+-- each byte is of its column's class, and there are as many as columns
+unfoldable pub matches : List Class → List ℕ → Bool
+matches [] [] = true
+matches [] (c ∷ l) = false
+matches (k ∷ ks) [] = false
+matches (k ∷ ks) (c ∷ l) = admits k c && matches ks l
+
+abbrev pub exactly : List ℕ → List Class
+exactly [] = []
+exactly (c ∷ l) = only c ∷ exactly l
+
+-- n columns of one class
+abbrev pub run : ℕ → Class → List Class
+run zero k = []
+run (suc n) k = k ∷ run n k
+
+unfoldable pub columns1 : List Class
+columns1 = exactly start1 ++ run 5 digit ++ (only 46 ∷ []) ++ run 8 digit ++ exactly rest1 ++ run 1 digit
+
+abbrev pub angleColumns : List Class
+angleColumns = run 2 padded ++ run 1 digit ++ (only 46 ∷ []) ++ run 4 digit
+
+unfoldable pub columns2 : List Class
+columns2 =
+    exactly start2 ++ angleColumns ++ (only 32 ∷ []) ++ angleColumns ++ exactly middle2 ++ angleColumns ++ (only 32 ∷ []) ++ run 1 padded ++ run 1 digit ++ (only 46 ∷ [])
+    ++ run 8 digit ++ exactly end2 ++ run 1 digit
+
+-- ---- the number in columns a to b, its point and blanks left out
+unfoldable pub value : ℕ → List ℕ → ℕ
+value n [] = n
+value n (c ∷ l) = cond (isDigit c) (value (n * 10 + (c - 48)) l) (value n l)
+
+unfoldable pub numberIn : ℕ → ℕ → List ℕ → ℕ
+numberIn a b l = value 0 (take (b + 1 - a) (drop (a - 1) l))
+
+-- N is within half a unit of v × 10 ^ p, for a v that is not below zero: v is num v / den v, and both sides are multiplied by 2 and den v
+pub record HalfUnit (p : ℕ) (v : Float) (N : ℕ) : Type 0 where
+  pub range : T (within v)
+  pub above : num v * 10 ^ p * 2 ≤ N * den v * 2 + den v
+  pub below : N * den v * 2 ≤ num v * 10 ^ p * 2 + den v
+
+-- the checksum in column 69 is that of the 68 columns before it
+abbrev pub Checked : List ℕ → Type 0
+Checked l = numberIn 69 69 l ≡ checksumOf (take 68 l)
+
+pub record Printed (o : SolvedOrbit) (l1 l2 : List ℕ) : Type 0 where
+  pub length-1 : length l1 ≡ 69
+  pub length-2 : length l2 ≡ 69
+  pub columns-1 : T (matches columns1 l1)
+  pub columns-2 : T (matches columns2 l2)
+  pub checksum-1 : Checked l1
+  pub checksum-2 : Checked l2
+  pub year : numberIn 19 20 l1 ≡ epochOf (o .epoch) .year % 100
+  pub day-of-year : HalfUnit 8 (epochOf (o .epoch) .day) (numberIn 21 32 l1)
+  pub inclination : HalfUnit 4 (printedDegrees (o .i)) (numberIn 9 16 l2)
+  pub node : HalfUnit 4 (printedDegrees (o .raan0)) (numberIn 18 25 l2)
+  pub eccentricity : numberIn 27 33 l2 ≡ 0
+  pub perigee : numberIn 35 42 l2 ≡ 0
+  pub mean-anomaly : HalfUnit 4 (printedDegrees (o .u0)) (numberIn 44 51 l2)
+  pub mean-motion : HalfUnit 8 (meanMotionOf (o .a)) (numberIn 53 63 l2)
+  pub revolution : numberIn 64 68 l2 ≡ 0
