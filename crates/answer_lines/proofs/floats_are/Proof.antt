@@ -1,0 +1,67 @@
+-- `answer_lines::floats_are` meets its contract. Assumes nothing.
+use mathlib.Core.Path.{refl, sym, _∙_}
+use Prim.Native.Nat.{_-_}
+use native.Mathlib.Omega.{arith}
+use lib.ListN.{length}
+use lib.Dec.{eqb}
+use lib.Ieee.{binary64, toBits, nan}
+use borrow.Author.Tests.{eq-eqb, ne-eqb}
+use Rattle.answer_lines.specs.Lines.{fieldAt, floatItems}
+use Rattle.answer_lines.proofs.Laws.{Testing, testing-next, testing-other, testing-end}
+use borrow.Author.Needs.{needs}
+use Rattle.answer_lines.proofs.floats_are.Statement.{statement}
+use Rattle.answer_lines.proofs.floats_are.Tie as tie
+
+abbrev Inv-loop : tie.InvT-loop
+Inv-loop fields x i₀ i-end i = Testing (λ k v. eqb (toBits binary64 v) (fieldAt (fields) k)) x (floatItems fields x) i
+
+abbrev μ-loop : tie.MeasureT-loop
+μ-loop fields x i₀ i-end i = length x - i
+
+loop-holds : tie.Need-loop-holds Inv-loop μ-loop
+unfolding floatItems
+loop-holds c = record { turns = omega arith; is = refl }
+
+mul-bits : tie.Need-mul-bits Inv-loop μ-loop
+mul-bits c = search needs
+
+shared-slice-read-bits : tie.Need-shared-slice-read-bits Inv-loop μ-loop
+shared-slice-read-bits c = search needs
+
+bits-requires : tie.Need-bits-requires Inv-loop μ-loop
+bits-requires c κs = search needs
+
+field-requires : tie.Need-field-requires Inv-loop μ-loop
+field-requires c κs = search needs
+
+returns : tie.Need-returns Inv-loop μ-loop
+returns c = let l = c .before .before .before .before .before in testing-other (λ k v. eqb (toBits binary64 v) (fieldAt (l .before .before .before .args .fields .now) k)) (l .loop .inv) nan (omega arith) (ne-eqb _ _ (λ e. c .if1 .taken (c .before .before .bits .ensures ∙ e ∙ sym (c .before .field .ensures))))
+
+add-i : tie.Need-add-i Inv-loop μ-loop
+add-i c = search needs
+
+loop-less : tie.Need-loop-less Inv-loop μ-loop
+loop-less c = search needs
+
+loop-again : tie.Need-loop-again Inv-loop μ-loop
+loop-again c = let l = c .before .before .before .before .before in testing-next (λ k v. eqb (toBits binary64 v) (fieldAt (l .before .before .before .args .fields .now) k)) (l .loop .inv) nan (omega arith) (eq-eqb _ _ (sym (c .before .before .bits .ensures) ∙ c .if1 .left ∙ c .before .field .ensures))
+
+returns-2 : tie.Need-returns-2 Inv-loop μ-loop
+returns-2 c = let l = c .before in testing-end (λ k v. eqb (toBits binary64 v) (fieldAt (l .before .before .before .args .fields .now) k)) (l .loop .inv) (c .loop-test .left)
+
+pub floats-are-spec : {M : Type 1} → statement M
+floats-are-spec =
+    tie.close
+    (tie.spec
+    Inv-loop
+    μ-loop
+    loop-holds
+    mul-bits
+    shared-slice-read-bits
+    bits-requires
+    field-requires
+    returns
+    add-i
+    loop-less
+    loop-again
+    returns-2)

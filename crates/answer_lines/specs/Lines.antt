@@ -1,0 +1,87 @@
+-- A line of stored answers: a word, fields, ` =`, fields. A field is a blank and 16 hexadecimal digits. Definitions only.
+use Prim.Native.Nat.{ℕ, suc, _+_, _-_, _*_, _/_, _%_, _^_, _<_}
+use mathlib.Core.Path.{_≡_}
+use mathlib.Core.Bool.{Bool, true, false, cond}
+use mathlib.Core.List.{List, [], _∷_}
+use lib.Dec.{eqb, ltb}
+use lib.ListN.{length, getD, take, drop}
+use lib.IntN.{ℤ}
+use lib.Ieee.{Float, binary64, ofBits, toBits}
+use mir.Syntax.{w64}
+use mir.Val.{ofZ}
+use Rattle.replay.specs.Word.{wordAt}
+
+-- how many bytes stand before the first b: all, where there is none
+unfoldable pub placeOf : ℕ → List ℕ → ℕ
+placeOf b [] = 0
+placeOf b (c ∷ l) = cond (eqb c b) 0 (suc (placeOf b l))
+
+-- the name stands at the line's beginning
+unfoldable pub beginsWith : List ℕ → List ℕ → Bool
+beginsWith [] line = true
+beginsWith (c ∷ name) [] = false
+beginsWith (c ∷ name) (b ∷ line) = cond (eqb b c) (beginsWith name line) false
+
+-- the fields that are asked: from the first blank up to the `=`
+unfoldable pub askedOf : List ℕ → List ℕ
+askedOf line = let before = take (placeOf 61 line) line in drop (placeOf 32 before) before
+
+-- the fields of the answer: what stands after the `=`
+unfoldable pub answerOf : List ℕ → List ℕ
+answerOf line = drop (placeOf 61 line + 1) line
+
+-- the fields from field k on
+unfoldable pub fieldsFrom : ℕ → List ℕ → List ℕ
+fieldsFrom k fields = drop (17 * k) fields
+
+-- field k, counted from 0
+unfoldable pub fieldAt : List ℕ → ℕ → ℕ
+fieldAt fields k = wordAt (fieldsFrom k fields) 1
+
+unfoldable pub floatAt : List ℕ → ℕ → Float
+floatAt fields k = ofBits binary64 (fieldAt fields k)
+
+-- byte i of bytes that lie eight to a field, the first in the highest digits
+unfoldable pub byteAt : List ℕ → ℕ → ℕ
+byteAt fields i = fieldAt fields (i / 8) / 2 ^ (56 - 8 * (i % 8)) % 256
+
+-- every element passes the test, which is given the place too
+unfoldable pub every : {A : Type 0} → (ℕ → A → Bool) → ℕ → List A → Bool
+every test i [] = true
+every test i (x ∷ l) = cond (test i x) (every test (i + 1) l) false
+
+-- the bytes are these
+unfoldable pub byteItems : List ℕ → List ℕ → Bool
+byteItems fields = every (λ i b. eqb b (byteAt fields i)) 0
+
+-- the floats are these: any NaN is any other, and zeros keep their sign
+unfoldable pub floatItems : List ℕ → List Float → Bool
+floatItems fields = every (λ i v. eqb (toBits binary64 v) (fieldAt fields i)) 0
+
+unfoldable pub countItems : List ℕ → List ℕ → Bool
+countItems fields = every (λ i n. eqb n (fieldAt fields i)) 0
+
+-- the numbers are these, by two's complement
+unfoldable pub signedItems : List ℕ → List ℤ → Bool
+signedItems fields = every (λ i t. eqb (ofZ w64 t) (fieldAt fields i)) 0
+
+-- the list at the first field, how many and then each, has n elements, and they pass the test
+unfoldable pub sameList : {A : Type 0} → (List ℕ → List A → Bool) → List ℕ → ℕ → List A → Bool
+sameList items fields n x = cond (eqb (fieldAt fields 0) n) (cond (ltb (length x) n) false (items (fieldsFrom 1 fields) (take n x))) false
+
+-- it has just the first n of these
+abbrev pub sameBytes : List ℕ → ℕ → List ℕ → Bool
+sameBytes = sameList byteItems
+
+abbrev pub sameCounts : List ℕ → ℕ → List ℕ → Bool
+sameCounts = sameList countItems
+
+abbrev pub sameSigned : List ℕ → ℕ → List ℤ → Bool
+sameSigned = sameList signedItems
+
+abbrev pub sameFloats : List ℕ → ℕ → List Float → Bool
+sameFloats = sameList floatItems
+
+-- place i of the list has what f says, for each of its places
+pub record Filled {A : Type 0} (f : ℕ → A) (none : A) (l : List A) : Type 0 where
+  pub at : (i : ℕ) → i < length l → getD l i none ≡ f i

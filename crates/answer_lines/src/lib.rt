@@ -1,0 +1,253 @@
+// Reads lines of stored answers: a word, fields of 16 hexadecimal digits each after a blank, ` =`, fields. What stands past a line's end
+// counts as 0.
+ghost use mathlib.Core.Path.{_≡_};
+ghost use Prim.Native.Nat.{_+_, _%_, _≤_};
+ghost use lib.ListN.{length, take, drop};
+ghost use lib.Ieee.{nan};
+ghost use mir.Syntax.{w64};
+ghost use mir.Val.{ofZ};
+ghost use Rattle.answer_lines.specs.Lines.{placeOf, beginsWith, askedOf, answerOf, fieldsFrom, fieldAt, floatAt, byteAt, byteItems, countItems, signedItems, floatItems, sameBytes, sameCounts, sameSigned, sameFloats, Filled};
+use moment::Moment;
+
+// How many bytes stand before the first `byte`: all, where there is none.
+pub fn find(text: &[u8], byte: u8) -> usize
+    ensures { λ r. ⌜ (r ≡ placeOf byte (now (text .entry))) × (r ≤ length (now (text .entry))) ⌝ }
+{
+    let mut i = 0;
+    while i < text.len() {
+        if text[i] == byte {
+            return i;
+        }
+        i += 1;
+    }
+    i
+}
+
+// Where the line that begins at a place ends: at its line feed, or the text's end.
+pub fn line_end(text: &[u8], at: usize) -> usize
+    requires { ⌜ at ≤ length (now text) ⌝ }
+    ensures { λ r. ⌜ (r ≡ at + placeOf 10 (drop at (now (text .entry)))) × (r ≤ length (now (text .entry))) ⌝ }
+{
+    at + find(&text[at..], b'\n')
+}
+
+pub fn begins_with(line: &[u8], name: &[u8]) -> bool
+    ensures { λ r. ⌜ r ≡ beginsWith (now (name .entry)) (now (line .entry)) ⌝ }
+{
+    let mut i = 0;
+    while i < name.len() {
+        if line.len() <= i {
+            return false;
+        }
+        if line[i] != name[i] {
+            return false;
+        }
+        i += 1;
+    }
+    true
+}
+
+// The fields that are asked.
+pub fn asked(line: &[u8]) -> &[u8]
+    ensures { λ r. ⌜ now r ≡ askedOf (now (line .entry)) ⌝ }
+{
+    let end = find(line, b'=');
+    let before = &line[..end];
+    let start = find(before, b' ');
+    &before[start..]
+}
+
+// The fields of the answer.
+pub fn answer(line: &[u8]) -> &[u8]
+    ensures { λ r. ⌜ now r ≡ answerOf (now (line .entry)) ⌝ }
+{
+    let end = find(line, b'=');
+    if end == line.len() {
+        return &line[end..];
+    }
+    &line[end + 1..]
+}
+
+// The fields from field k on.
+pub fn from(fields: &[u8], k: usize) -> &[u8]
+    ensures { λ r. ⌜ now r ≡ fieldsFrom k (now (fields .entry)) ⌝ }
+{
+    let n = fields.len();
+    if n / 17 < k {
+        return &fields[n..];
+    }
+    &fields[17 * k..]
+}
+
+// Field k, counted from 0.
+pub fn field(fields: &[u8], k: usize) -> u64
+    ensures { λ r. ⌜ r ≡ fieldAt (now (fields .entry)) k ⌝ }
+{
+    replay::word(from(fields, k), 1)
+}
+
+pub fn float(fields: &[u8], k: usize) -> f64
+    ensures { λ r. ⌜ r ≡ floatAt (now (fields .entry)) k ⌝ }
+{
+    replay::float(field(fields, k))
+}
+
+// The number whose two's complement is field k.
+pub fn signed(fields: &[u8], k: usize) -> i64
+    ensures { λ r. ⌜ ofZ w64 r ≡ fieldAt (now (fields .entry)) k ⌝ }
+{
+    let w = field(fields, k);
+    if w < 9223372036854775808 {
+        return w as i64;
+    }
+    -1 - (18446744073709551615 - w) as i64
+}
+
+// The moment of the first two fields, of the second its last 32 bits.
+pub fn moment(fields: &[u8]) -> Moment
+    ensures { λ r. ⌜ (ofZ w64 (r .seconds) ≡ fieldAt (now (fields .entry)) 0) × (r .nanos ≡ fieldAt (now (fields .entry)) 1 % 4294967296) ⌝ }
+{
+    Moment {
+        seconds: signed(fields, 0),
+        nanos: (field(fields, 1) % 4294967296) as u32,
+    }
+}
+
+// Byte i of bytes that lie eight to a field.
+fn byte(fields: &[u8], i: usize) -> u8
+    ensures { λ r. ⌜ r ≡ byteAt (now (fields .entry)) i ⌝ }
+{
+    ((field(fields, i / 8) >> (56 - 8 * (i % 8))) % 256) as u8
+}
+
+// As many bytes as out has places.
+pub fn bytes(fields: &[u8], out: &mut [u8])
+    ensures { λ _. ⌜ Filled (byteAt (now (fields .entry))) 0 (now (out .exit)) ⌝ }
+{
+    for i in 0usize..out.len() {
+        out[i] = byte(fields, i);
+    }
+}
+
+// As many floats as out has places.
+pub fn floats(fields: &[u8], out: &mut [f64])
+    ensures { λ _. ⌜ Filled (floatAt (now (fields .entry))) nan (now (out .exit)) ⌝ }
+{
+    for i in 0usize..out.len() {
+        out[i] = float(fields, i);
+    }
+}
+
+// The first n, or all where they are fewer.
+pub fn first_bytes(x: &[u8], n: u64) -> &[u8]
+    ensures { λ r. ⌜ now r ≡ take n (now (x .entry)) ⌝ }
+{
+    if (x.len() as u64) < n {
+        return x;
+    }
+    &x[..n as usize]
+}
+
+pub fn first_floats(x: &[f64], n: u64) -> &[f64]
+    ensures { λ r. ⌜ now r ≡ take n (now (x .entry)) ⌝ }
+{
+    if (x.len() as u64) < n {
+        return x;
+    }
+    &x[..n as usize]
+}
+
+// Whether these are the bytes.
+fn bytes_are(fields: &[u8], x: &[u8]) -> bool
+    ensures { λ r. ⌜ r ≡ byteItems (now (fields .entry)) (now (x .entry)) ⌝ }
+{
+    for i in 0usize..x.len() {
+        if x[i] != byte(fields, i) {
+            return false;
+        }
+    }
+    true
+}
+
+// Whether these are the floats: any NaN is any other, zeros keep their sign.
+pub fn floats_are(fields: &[u8], x: &[f64]) -> bool
+    ensures { λ r. ⌜ r ≡ floatItems (now (fields .entry)) (now (x .entry)) ⌝ }
+{
+    for i in 0usize..x.len() {
+        if replay::bits(x[i]) != field(fields, i) {
+            return false;
+        }
+    }
+    true
+}
+
+fn counts_are(fields: &[u8], x: &[u32]) -> bool
+    ensures { λ r. ⌜ r ≡ countItems (now (fields .entry)) (now (x .entry)) ⌝ }
+{
+    for i in 0usize..x.len() {
+        if x[i] as u64 != field(fields, i) {
+            return false;
+        }
+    }
+    true
+}
+
+fn signed_are(fields: &[u8], x: &[i64]) -> bool
+    ensures { λ r. ⌜ r ≡ signedItems (now (fields .entry)) (now (x .entry)) ⌝ }
+{
+    for i in 0usize..x.len() {
+        if x[i] != signed(fields, i) {
+            return false;
+        }
+    }
+    true
+}
+
+// Whether the list that begins at the first field has n elements, the first n of these.
+pub fn same_bytes(fields: &[u8], n: usize, x: &[u8]) -> bool
+    ensures { λ r. ⌜ r ≡ sameBytes (now (fields .entry)) n (now (x .entry)) ⌝ }
+{
+    if field(fields, 0) != n as u64 {
+        return false;
+    }
+    if x.len() < n {
+        return false;
+    }
+    bytes_are(from(fields, 1), &x[..n])
+}
+
+pub fn same_counts(fields: &[u8], n: usize, x: &[u32]) -> bool
+    ensures { λ r. ⌜ r ≡ sameCounts (now (fields .entry)) n (now (x .entry)) ⌝ }
+{
+    if field(fields, 0) != n as u64 {
+        return false;
+    }
+    if x.len() < n {
+        return false;
+    }
+    counts_are(from(fields, 1), &x[..n])
+}
+
+pub fn same_signed(fields: &[u8], n: usize, x: &[i64]) -> bool
+    ensures { λ r. ⌜ r ≡ sameSigned (now (fields .entry)) n (now (x .entry)) ⌝ }
+{
+    if field(fields, 0) != n as u64 {
+        return false;
+    }
+    if x.len() < n {
+        return false;
+    }
+    signed_are(from(fields, 1), &x[..n])
+}
+
+pub fn same_floats(fields: &[u8], n: usize, x: &[f64]) -> bool
+    ensures { λ r. ⌜ r ≡ sameFloats (now (fields .entry)) n (now (x .entry)) ⌝ }
+{
+    if field(fields, 0) != n as u64 {
+        return false;
+    }
+    if x.len() < n {
+        return false;
+    }
+    floats_are(from(fields, 1), &x[..n])
+}
