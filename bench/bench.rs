@@ -1,0 +1,217 @@
+//! bench [ROUNDS]: the port against the published and the patched original, one thread, the same inputs.
+//!
+//! A round times every copy on all inputs, in turning order, by the thread's processor time, so that other programs on
+//! the machine count little. A copy's time is the median over the rounds; a ratio is taken within a round, and given as
+//! median and from the tenth to the ninetieth hundredth.
+use common::Moment;
+use common::numbers::Random;
+use std::hint::black_box;
+
+#[allow(unused_imports)]
+#[path = "../oracle/src/port.rs"]
+mod port;
+
+unsafe extern "C" {
+    fn clock_gettime(clock: i32, time: *mut [i64; 2]) -> i32;
+}
+
+/// Seconds of processor time of this thread (Linux's clock 3).
+fn now() -> f64 {
+    let mut t = [0; 2];
+    assert!(unsafe { clock_gettime(3, &mut t) } == 0);
+    t[0] as f64 + t[1] as f64 / 1e9
+}
+
+type Run<'a> = Box<dyn Fn() + 'a>;
+
+fn part(sorted: &[f64], p: f64) -> f64 {
+    sorted[((sorted.len() - 1) as f64 * p).round() as usize]
+}
+
+fn sorted(v: impl Iterator<Item = f64>) -> Vec<f64> {
+    let mut v: Vec<f64> = v.collect();
+    v.sort_by(|a, b| a.total_cmp(b));
+    v
+}
+
+/// `calls` calls a run; copies are port, patched, published.
+fn bench(name: &str, rounds: usize, calls: usize, runs: [Run; 3]) {
+    let mut times = [vec![], vec![], vec![]];
+    for round in 0..rounds + 2 {
+        for k in 0..3 {
+            let which = (k + round) % 3;
+            let began = now();
+            runs[which]();
+            let t = (now() - began) * 1e9 / calls as f64;
+            if round >= 2 {
+                times[which].push(t);
+            }
+        }
+    }
+    let median = |k: usize| part(&sorted(times[k].iter().copied()), 0.5);
+    let ratio = |k: usize| {
+        let r = sorted((0..rounds).map(|n| times[0][n] / times[k][n]));
+        format!("{:.2} ({:.2} to {:.2})", part(&r, 0.5), part(&r, 0.1), part(&r, 0.9))
+    };
+    let show = |t: f64| if t < 1e5 { format!("{t:.1} ns") } else { format!("{:.1} ms", t / 1e6) };
+    println!(
+        "| {name} | {} | {} | {} | {} | {} |",
+        show(median(0)),
+        show(median(1)),
+        show(median(2)),
+        ratio(1),
+        ratio(2)
+    );
+}
+
+fn floats<'a>(inputs: &'a [f64], f: impl Fn(f64) -> f64 + 'a) -> Run<'a> {
+    Box::new(move || {
+        for &v in inputs {
+            black_box(f(black_box(v)));
+        }
+    })
+}
+
+struct Sample {
+    e: [f64; 4],
+    epoch: Moment,
+    t: Moment,
+    dt: f64,
+    df: f64,
+    rec: [f64; 3],
+}
+
+fn main() {
+    let rounds: usize = std::env::args().nth(1).map_or(31, |w| w.parse().expect("ROUNDS is a number"));
+    let mut r = Random::new(1);
+    let n = 20_000;
+    println!("| function | port | patched | published | port / patched | port / published |");
+    println!("|---|---|---|---|---|---|");
+
+    let roots: Vec<f64> = (0..n).map(|_| r.between(1e-3, 1e15)).collect();
+    bench("`sqrt`", rounds, n, [
+        floats(&roots, |v| unsafe { port::wisvalom_sqrt(v) }),
+        floats(&roots, |v| patched::judge::floats::sqrt(v)),
+        floats(&roots, |v| published::judge::floats::sqrt(v)),
+    ]);
+    let cubes: Vec<f64> = (0..n).map(|_| r.between(1e19, 1e21)).collect();
+    bench("`cbrt`", rounds, n, [
+        floats(&cubes, |v| unsafe { port::wisvalom_cbrt(v) }),
+        floats(&cubes, |v| patched::judge::floats::cbrt(v)),
+        floats(&cubes, |v| published::judge::floats::cbrt(v)),
+    ]);
+    let angles: Vec<f64> = (0..n).map(|_| r.between(0.0, 600.0)).collect();
+    bench("`sin`", rounds, n, [
+        floats(&angles, |v| unsafe { port::wisvalom_sin(v) }),
+        floats(&angles, |v| patched::judge::floats::sin(v)),
+        floats(&angles, |v| published::judge::floats::sin(v)),
+    ]);
+    bench("`cos`", rounds, n, [
+        floats(&angles, |v| unsafe { port::wisvalom_cos(v) }),
+        floats(&angles, |v| patched::judge::floats::cos(v)),
+        floats(&angles, |v| published::judge::floats::cos(v)),
+    ]);
+
+    let samples: Vec<Sample> = (0..n)
+        .map(|k| {
+            let epoch = Moment { seconds: 1781222400, nanos: 0 };
+            let t = Moment { seconds: 1781222400 + (k * 5) as i64, nanos: r.below(1_000_000_000) as u32 };
+            Sample {
+                e: [r.between(6.7e6, 7.9e6), r.between(0.5, 2.0), r.between(0.0, 6.28), r.between(0.0, 6.28)],
+                epoch,
+                t,
+                dt: r.between(-10.0, 10.0),
+                df: r.between(-1000.0, 1000.0),
+                rec: [3.5e6, 1.0e6, 5.2e6],
+            }
+        })
+        .collect();
+    macro_rules! over {
+        ($f:expr) => {
+            Box::new(|| {
+                for s in &samples {
+                    black_box($f(black_box(s)));
+                }
+            }) as Run
+        };
+    }
+    // The originals take chrono's moments: made before the clock starts.
+    let patched_times: Vec<_> = samples.iter().map(|s| (patched::judge::time(s.epoch), patched::judge::time(s.t))).collect();
+    let published_times: Vec<_> =
+        samples.iter().map(|s| (published::judge::time(s.epoch), published::judge::time(s.t))).collect();
+    macro_rules! timed {
+        ($times:ident, $f:expr) => {
+            Box::new(|| {
+                for (s, t) in samples.iter().zip(&$times) {
+                    black_box($f(black_box(s), black_box(t)));
+                }
+            }) as Run
+        };
+    }
+    bench("`datetime_to_jd`", rounds, n, [
+        over!(|s: &Sample| {
+            let mut out = 0.0;
+            unsafe { port::wisvalom_datetime_to_jd(s.t.seconds, s.t.nanos, &mut out) };
+            out
+        }),
+        timed!(patched_times, |_: &Sample, t: &(_, _)| patched::orbit::datetime_to_jd(t.1)),
+        timed!(published_times, |_: &Sample, t: &(_, _)| published::orbit::datetime_to_jd(t.1)),
+    ]);
+    bench("`propagate_ecef_at_time`", rounds, n, [
+        over!(|s: &Sample| {
+            let (e, mut out) = (&s.e, [0.0; 6]);
+            unsafe {
+                port::wisvalom_propagate_ecef_at_time(
+                    e[0], e[1], e[2], e[3], s.epoch.seconds, s.epoch.nanos, s.t.seconds, s.t.nanos, s.t.seconds, s.t.nanos, &mut out,
+                )
+            };
+            out
+        }),
+        timed!(patched_times, |s: &Sample, t: &(_, _)| {
+            patched::orbit_solver::propagate_ecef_at_time(s.e[0], s.e[1], s.e[2], s.e[3], t.0, t.1, t.1)
+        }),
+        timed!(published_times, |s: &Sample, t: &(_, _)| {
+            published::orbit_solver::propagate_ecef_at_time(s.e[0], s.e[1], s.e[2], s.e[3], t.0, t.1, t.1)
+        }),
+    ]);
+    bench("`predict_frequency`", rounds, n, [
+        over!(|s: &Sample| {
+            let (e, mut out) = (&s.e, 0.0);
+            unsafe {
+                port::wisvalom_predict_frequency(
+                    e[0], e[1], e[2], e[3], s.epoch.seconds, s.epoch.nanos, s.t.seconds, s.t.nanos, s.dt, s.df, 150.8e6, s.rec[0],
+                    s.rec[1], s.rec[2], &mut out,
+                )
+            };
+            out
+        }),
+        timed!(patched_times, |s: &Sample, t: &(_, _)| {
+            patched::orbit_solver::predict_frequency(s.e[0], s.e[1], s.e[2], s.e[3], t.0, t.1, s.dt, s.df, 150.8e6, s.rec)
+        }),
+        timed!(published_times, |s: &Sample, t: &(_, _)| {
+            published::orbit_solver::predict_frequency(s.e[0], s.e[1], s.e[2], s.e[3], t.0, t.1, s.dt, s.df, 150.8e6, s.rec)
+        }),
+    ]);
+    bench("`predict_frequency_poly`", rounds, n, [
+        over!(|s: &Sample| {
+            let (e, mut out) = (&s.e, 0.0);
+            unsafe {
+                port::wisvalom_predict_frequency_poly(
+                    e[0], e[1], e[2], e[3], s.epoch.seconds, s.epoch.nanos, s.t.seconds, s.t.nanos, s.dt, s.df, 0.1, 1e-3,
+                    s.epoch.seconds, s.epoch.nanos, 150.8e6, s.rec[0], s.rec[1], s.rec[2], &mut out,
+                )
+            };
+            out
+        }),
+        timed!(patched_times, |s: &Sample, t: &(_, _)| {
+            patched::orbit_solver::predict_frequency_poly(
+                s.e[0], s.e[1], s.e[2], s.e[3], t.0, t.1, s.dt, (s.df, 0.1, 1e-3), t.0, 150.8e6, s.rec,
+            )
+        }),
+        timed!(published_times, |s: &Sample, t: &(_, _)| {
+            published::orbit_solver::predict_frequency_poly(
+                s.e[0], s.e[1], s.e[2], s.e[3], t.0, t.1, s.dt, (s.df, 0.1, 1e-3), t.0, 150.8e6, s.rec,
+            )
+        }),
+    ]);
+}

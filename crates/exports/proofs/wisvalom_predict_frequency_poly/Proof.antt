@@ -1,0 +1,40 @@
+use mathlib.Core.Path.{sym, _∙_}
+use mir.Syntax.{w64}
+use mir.ValLaws.{toZ-ofZ}
+use borrow.Author.Needs.{needs}
+use Rattle.exports.proofs.Given.{frequency, refused, poly-predicted}
+use Rattle.exports.proofs.wisvalom_predict_frequency_poly.Statement.{statement}
+use Rattle.exports.proofs.wisvalom_predict_frequency_poly.Tie as tie
+
+predict-frequency-poly-requires : tie.Need-predict-frequency-poly-requires
+predict-frequency-poly-requires c κs = search needs
+
+enum-known-answer : tie.Need-enum-known-answer
+enum-known-answer c = search needs
+
+enum-known-answer-2 : tie.Need-enum-known-answer-2
+enum-known-answer-2 c = search needs
+
+returns : tie.Need-returns
+returns c =
+    let f = c .before .before .before .before .fits in
+    frequency _ _ _ _
+    (poly-predicted _ _ _ _ _ _ _ _ _ _ _ _ _ _ _ _ _ (toZ-ofZ w64 _ (f .epoch)) (toZ-ofZ w64 _ (f .t-obs)) (toZ-ofZ w64 _ (f .t-ref)))
+    (sym (c .before .answer .given .1) ∙ c .before .before .before .predict-frequency-poly .ensures)
+
+returns-2 : tie.Need-returns-2
+returns-2 c =
+    let f = c .before .before .before .before .fits in
+    refused _ _ _ _
+    (poly-predicted _ _ _ _ _ _ _ _ _ _ _ _ _ _ _ _ _ (toZ-ofZ w64 _ (f .epoch)) (toZ-ofZ w64 _ (f .t-obs)) (toZ-ofZ w64 _ (f .t-ref)))
+    (sym (c .before .answer2 .given .1) ∙ c .before .before .before .predict-frequency-poly .ensures)
+
+pub wisvalom-predict-frequency-poly-spec : {M : Type 1} → statement M
+wisvalom-predict-frequency-poly-spec =
+    tie.close
+    (tie.spec
+    predict-frequency-poly-requires
+    enum-known-answer
+    enum-known-answer-2
+    returns
+    returns-2)

@@ -1,0 +1,143 @@
+//! Pass files by seed, good and damaged.
+use crate::Set;
+use crate::numbers::Random;
+
+fn time(r: &mut Random) -> String {
+    let y = match r.below(12) {
+        0 => r.pick(&[1956, 1957, 2056, 2057, 0, 9999, 1970, 2000, 1900, 2100]),
+        _ => 2020 + r.below(10),
+    };
+    let days = if r.one_in(12) { 31 } else { 28 };
+    let (mo, d) = (1 + r.below(12), 1 + r.below(days));
+    let s = if r.one_in(40) { 60 } else { r.below(60) };
+    let t = if r.one_in(20) { r.pick(&['t', ' ', '_']) } else { 'T' };
+    let mut out = format!("{y:04}-{mo:02}-{d:02}{t}{:02}:{:02}:{s:02}", r.below(24), r.below(60));
+    if r.one_in(2) {
+        out.push('.');
+        for _ in 0..r.pick(&[1, 3, 6, 9, 9, 12, 20]) {
+            out.push((b'0' + r.below(10) as u8) as char);
+        }
+    }
+    match r.below(12) {
+        0 => out.push('z'),
+        1 => out.push_str(&format!("{}{:02}:{:02}", r.pick(&['+', '-']), r.below(25), r.below(61))),
+        2 => out.push_str(r.pick(&["UTC", "+0000", "+00", "-00:00", "", "+00:00", " Z", "utc"])),
+        _ => out.push('Z'),
+    }
+    out
+}
+
+fn number(r: &mut Random) -> String {
+    match r.below(14) {
+        0 => r.pick(&["inf", "nan", "-inf", "+Infinity", "-NaN", "NAN", "infinity", "infin", "1.", ".5", ".", "1e", "-", "+", "e5", "1e+5", "1E-5", "1e005", "1e31", "1e30", "1e-30", "1e-31", "00000000000000000001", "0000000000000000001", "1e1000", "1_0", "0x10", "1 ", "", "-0", "+0.0"]).to_string(),
+        1 => format!("{:e}", r.float()),
+        2 => format!("{}", r.between(-1e6, 1e6)),
+        3 => {
+            let n = 15 + r.below(8);
+            let dot = r.below(n);
+            let mut s: String = (0..n).map(|_| (b'0' + r.below(10) as u8) as char).collect();
+            if r.one_in(2) {
+                s.insert(dot as usize, '.');
+            }
+            if r.one_in(3) {
+                s.push_str(&format!("e{}", r.below(70) as i64 - 35));
+            }
+            s
+        }
+        _ => format!("{:.3}", r.between(150e6, 151e6)),
+    }
+}
+
+fn blank(r: &mut Random) -> String {
+    (0..r.below(3)).map(|_| r.pick(&[' ', '\t', '\u{b}', '\u{c}', ' ', '\u{1c}', '\r'])).collect()
+}
+
+fn line(r: &mut Random) -> String {
+    match r.below(20) {
+        0 => {
+            let key = r.pick(&["satellite_name", "Satellite_Name", "SATELLITE_NAME", "center_frequency", "Center_Frequency", "centre", "", "satellite_name "]);
+            let value = if r.one_in(2) { number(r) } else { r.pick(&["HERD-1", "", "a:b", "NOAA 15", "x,y", "#"]).to_string() };
+            format!("#{}{}{}{}{}", blank(r), key, r.pick(&[":", "", ": ", " :"]), blank(r), value)
+        }
+        1 => "utc_timestamp,f".to_string(),
+        2 => blank(r),
+        3 => format!("{},{},{}", time(r), number(r), number(r)),
+        4 => format!("{} ,{}", time(r), number(r)),
+        5 => time(r),
+        6 => "x".repeat(r.pick(&[255, 256, 257, 10])),
+        _ => format!("{}{},{}{}", if r.one_in(10) { blank(r) } else { String::new() }, time(r), number(r), if r.one_in(10) { blank(r) } else { String::new() }),
+    }
+}
+
+/// A file of up to a few dozen lines, sometimes with bytes changed, dropped or added.
+pub fn file(seed: u64) -> Vec<u8> {
+    let mut r = Random::new(seed ^ 0xf11e);
+    let mut out = Vec::new();
+    if r.one_in(2000) {
+        // About the most samples.
+        for k in 0..4094 + r.below(5) {
+            out.extend(format!("2026-06-12T00:{:02}:{:02}Z,{k}\n", k / 60 % 60, k % 60).bytes());
+        }
+        return out;
+    }
+    if r.one_in(2) {
+        out.extend(b"#Satellite_Name: HERD-1\n#Center_Frequency: 150800000\nutc_timestamp,f\n");
+    }
+    for _ in 0..r.pick(&[0, 1, 1, 2, 3, 5, 20]) {
+        out.extend(line(&mut r).bytes());
+        out.extend(r.pick(&["\n", "\n", "\n", "\r\n", "\r\r\n", "\n\n"]).bytes());
+    }
+    if r.one_in(4) {
+        out.extend(line(&mut r).bytes());
+        if r.one_in(4) {
+            out.push(b'\r');
+        }
+    }
+    if r.one_in(3) {
+        damage(&mut r, &mut out);
+    }
+    out
+}
+
+/// Up to three bytes changed, dropped or added, or an end cut off.
+fn damage(r: &mut Random, out: &mut Vec<u8>) {
+    for _ in 0..1 + r.below(3) {
+        if out.is_empty() {
+            return;
+        }
+        let at = r.below(out.len() as u64) as usize;
+        match r.below(5) {
+            0 => out[at] = r.below(256) as u8,
+            1 => {
+                out.remove(at);
+            }
+            2 => out.insert(at, r.below(128) as u8),
+            3 => out[at] ^= 1 << r.below(7),
+            _ => out.truncate(at),
+        }
+    }
+}
+
+/// A set in stored form, sometimes with its sizes or other bytes damaged, or only random bytes.
+pub fn stored(seed: u64, set: &Set) -> Vec<u8> {
+    let mut r = Random::new(seed ^ 0x570e);
+    let mut out = set.stored();
+    match r.below(5) {
+        0 => {}
+        1 => damage(&mut r, &mut out),
+        2 => {
+            let at = r.below(out.len().min(70) as u64) as usize;
+            out[at] = r.pick(&[0, 1, 2, 16, 17, 255, 128]);
+        }
+        3 => {
+            let n = r.below(80) as usize;
+            out = (0..n).map(|_| if r.one_in(3) { r.word() as u8 } else { r.below(3) as u8 }).collect();
+        }
+        _ => {
+            for _ in 0..r.below(9) {
+                out.push(r.word() as u8);
+            }
+        }
+    }
+    out
+}

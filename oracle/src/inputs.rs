@@ -1,0 +1,157 @@
+//! The fields of case k of a kind and seed.
+use crate::cases;
+use crate::files;
+use crate::lines::{Line, words};
+use crate::numbers::Random;
+use crate::simulator::{self, Case};
+use crate::Moment;
+
+pub const KINDS: &[&str] = &[
+    "sqrt", "cbrt", "sin", "cos", "ln", "abs", "floor", "round", "signum", "to_degrees", "to_radians", "powi2", "powi3",
+    "max", "min", "rem_euclid", "to_u64", "to_i64", "wrapping_mul", "draw", "gaussian", "monna", "unmonna", "padic",
+    "history", "normal", "jd", "teme", "wgs84", "prop", "pred", "poly", "pca", "rss", "grad", "solve", "search",
+    "residuals1", "residuals2", "step1", "step2", "fit", "lines", "checksum", "file",
+    "load",
+];
+
+/// Whether an answer of the kind begins with a refusal.
+pub fn refuses(kind: &str) -> bool {
+    let at = KINDS.iter().position(|&k| k == kind);
+    at >= KINDS.iter().position(|&k| k == "monna") && !["normal", "teme", "wgs84", "checksum"].contains(&kind)
+}
+
+/// Whether the fit lets the set by up to its work.
+fn workable(c: &Case) -> bool {
+    !c.set.sizes_disagree()
+        && !c.set.moments_outside()
+        && !c.receiver.iter().any(|x| x.is_nan())
+        && (6000e3..=50000e3).contains(&c.a)
+        && (0.0..=std::f64::consts::PI).contains(&c.i)
+        && !c.set.freqs.iter().any(|f| f.is_nan())
+        && c.set.non_empty() >= 2
+        && c.set.times.len() >= 4 + c.set.non_empty()
+}
+
+/// Parameters near nothing in particular, for the refinements.
+fn parameters(r: &mut Random, biases: usize, passes: usize, i: f64) -> Vec<f64> {
+    let mut set = vec![r.between(6600e3, 8000e3), i, r.between(0.0, 6.3), r.between(0.0, 6.3)];
+    for _ in 0..passes {
+        set.push(r.near(-600.0, 600.0, 30));
+        set.push(r.near(-2000.0, 2000.0, 30));
+        if biases == 4 {
+            set.push(r.near(-0.1, 0.1, 30));
+            set.push(r.near(-0.001, 0.001, 30));
+        }
+    }
+    set
+}
+
+fn base(r: &mut Random) -> u64 {
+    if r.one_in(20) { r.below(10) } else { 2 + r.below(6) }
+}
+
+fn epoch(r: &mut Random, c: &Case) -> Moment {
+    if r.one_in(3) || c.set.times.is_empty() { cases::moment(r) } else { Moment::of_nanos(c.set.times[0]) }
+}
+
+pub fn fields(kind: &str, seed: u64, k: u64) -> Vec<u64> {
+    let r = &mut cases::random(kind, seed, k);
+    let l = Line::default();
+    let l = match kind {
+        "max" | "min" | "rem_euclid" => {
+            let (v, w) = (r.float(), if r.one_in(4) { r.pick(&[360.0, 6.283185307179586]) } else { r.float() });
+            l.float(v).float(w)
+        }
+        "wrapping_mul" => l.word(r.word() >> r.below(64)).word(r.word() >> r.below(64)),
+        "draw" | "gaussian" => l.word(if r.one_in(10) { r.below(4).wrapping_sub(1) } else { r.word() }),
+        "monna" => l.word(r.word() >> r.below(64)).word(if r.one_in(50) { r.word() } else { base(r) }),
+        "unmonna" => {
+            let x = if r.one_in(3) { r.float() } else { r.unit() };
+            l.float(x).word(base(r)).word(if r.one_in(3) { r.below(18) } else { 16 })
+        }
+        "padic" => {
+            let (p, a) = (base(r), r.word() >> r.below(64));
+            let b = if r.one_in(2) {
+                r.word() >> r.below(64)
+            } else {
+                a.wrapping_add(p.checked_pow(r.below(64) as u32).unwrap_or(0).wrapping_mul(1 + r.below(6)))
+            };
+            l.word(a).word(b).word(p)
+        }
+        "history" => {
+            let n = if r.one_in(20) { r.below(70) } else { r.below(16) };
+            let strange = r.one_in(3);
+            let x: Vec<f64> = (0..n).map(|_| if strange { r.float() } else { r.between(0.0, 1e9) }).collect();
+            l.list(&x)
+        }
+        "normal" => l.floats(&[r.near(-3e7, 3e7, 4), r.near(-7e6, 7e6, 4), r.near(-7e6, 7e6, 4)]),
+        "jd" => l.moment(cases::moment(r)),
+        "teme" => (0..6).fold(l.float(r.near(2435839.5, 2472365.5, 6)), |l, k| {
+            l.float(if k < 3 { r.near(-1e7, 1e7, 10) } else { r.near(-8e3, 8e3, 10) })
+        }),
+        "wgs84" => l.floats(&[r.near(-90.0, 90.0, 8), r.near(-360.0, 360.0, 8), r.near(-500.0, 1e4, 8)]),
+        "prop" => {
+            let (e, epoch) = (cases::elements(r), cases::moment(r));
+            let (t, u) = (cases::later(r, epoch), cases::later(r, epoch));
+            l.floats(&e).moment(epoch).moment(t).moment(u)
+        }
+        "pred" | "poly" => {
+            let c = cases::predicted(r);
+            let l = l.floats(&c.e).moment(c.epoch).moment(c.t_obs).float(c.dt);
+            let l = if kind == "pred" { l.float(c.df[0]) } else { l.floats(&c.df).moment(c.t_ref) };
+            l.float(c.center).floats(&c.rec)
+        }
+        "pca" => {
+            let (c, e) = (cases::set(r), cases::elements(r));
+            l.floats(&e).moment(epoch(r, &c)).floats(&c.receiver).set(&c.set)
+        }
+        "rss" | "grad" => {
+            let (c, e) = (cases::set(r), cases::elements(r));
+            let epoch = epoch(r, &c);
+            let center = if r.one_in(3) || c.set.centers.is_empty() { r.near(1e8, 2e8, 4) } else { c.set.centers[0] };
+            l.set(&c.set).floats(&c.receiver).floats(&e).moment(epoch).float(center)
+        }
+        "solve" => {
+            let (n, m, v) = cases::system(r);
+            l.word(n).list(&m).list(&v)
+        }
+        "search" => {
+            let mut c = simulator::any(r.word());
+            while !workable(&c) || c.set.times.len() > 40 {
+                c = simulator::any(r.word());
+            }
+            l.set(&c.set).floats(&c.receiver).float(r.between(6600e3, 8000e3)).float(c.i)
+        }
+        "residuals1" | "residuals2" | "step1" | "step2" => {
+            let mut c = cases::set(r);
+            while !workable(&c) {
+                c = cases::set(r);
+            }
+            let set = if kind.ends_with('2') { parameters(r, 4, c.set.non_empty(), c.i) } else { parameters(r, 2, 2, c.i) };
+            let l = l.set(&c.set).floats(&c.receiver).list(&set);
+            if kind.starts_with("residuals") {
+                l
+            } else {
+                let damping = r.pick(&[1e-6, 1e-3, 0.1, 1.0, 10.0, 1e3, 1e7]);
+                l.float(damping).float(if r.one_in(3) { 0.0 } else { f64::MAX }).list(&set)
+            }
+        }
+        "fit" => {
+            let c = simulator::any(seed.wrapping_add(k));
+            l.set(&c.set).floats(&c.receiver).float(c.a).float(c.i)
+        }
+        "lines" => l.bytes(&cases::name(r)).floats(&cases::printed(r)).moment(cases::moment(r)),
+        "checksum" => {
+            let n = r.below(80);
+            let t: Vec<u8> = (0..n).map(|_| if r.one_in(2) { r.pick(b"0123456789-") } else { 32 + r.below(95) as u8 }).collect();
+            l.bytes(&t)
+        }
+        "file" => l.bytes(&files::file(r.word())),
+        "load" => {
+            let seed = r.word();
+            l.bytes(&files::stored(seed, &cases::set(r).set))
+        }
+        _ => l.float(r.float()),
+    };
+    words(&l.0).unwrap()
+}

@@ -1,0 +1,93 @@
+// Answers to the fields of a line; included once for each side, with its `judge`.
+use common::lines::{Fields, Line};
+
+fn put_state(l: Line, s: &judge::State) -> Line {
+    l.list(&s.set).float(s.damping).float(s.best).list(&s.kept)
+}
+
+/// The line with its answer; None where the side has no such kind or the fields do not fit it.
+pub fn answered(kind: &str, fields: &[u64]) -> Option<Line> {
+    let mut given = Fields::of(fields);
+    let f = &mut given;
+    let l = fields.iter().fold(Line::of(kind), |l, &w| l.word(w)).answer();
+    let l = match kind {
+        "max" | "min" | "rem_euclid" => l.float(judge::floats::two(kind, f.float()?, f.float()?)?),
+        "to_u64" => l.word(judge::floats::to_u64(f.float()?)?),
+        "to_i64" => l.int(judge::floats::to_i64(f.float()?)?),
+        "wrapping_mul" => l.word(judge::floats::wrapping_mul(f.word()?, f.word()?)?),
+        "draw" | "gaussian" => {
+            let s = f.word()?;
+            let (n, x) = if kind == "draw" { judge::draw(s) } else { judge::gaussian(s) };
+            l.word(n).float(x)
+        }
+        "monna" => l.refused_or(&judge::monna(f.word()?, f.word()?), |l, &x| l.float(x)),
+        "unmonna" => l.refused_or(&judge::unmonna(f.float()?, f.word()?, f.word()?), |l, &v| l.word(v)),
+        "padic" => l.refused_or(&judge::padic(f.word()?, f.word()?, f.word()?), |l, &x| l.float(x)),
+        "history" => l.refused_or(&judge::history(&f.list()?), |l, d| l.list(d)),
+        "normal" => l.list(&judge::normal(f.floats()?)),
+        "jd" => l.refused_or(&judge::jd(f.moment()?), |l, &x| l.float(x)),
+        "teme" => l.floats(&judge::teme(f.float()?, f.floats()?)),
+        "wgs84" => l.floats(&judge::wgs84(f.float()?, f.float()?, f.float()?)),
+        "prop" => {
+            let x = judge::prop(f.floats()?, f.moment()?, f.moment()?, f.moment()?);
+            l.refused_or(&x, |l, s| l.floats(s))
+        }
+        "pred" => {
+            let x = judge::pred(f.floats()?, f.moment()?, f.moment()?, f.float()?, f.float()?, f.float()?, f.floats()?);
+            l.refused_or(&x, |l, &x| l.float(x))
+        }
+        "poly" => {
+            let (e, epoch, t_obs, dt) = (f.floats()?, f.moment()?, f.moment()?, f.float()?);
+            let x = judge::poly(e, epoch, t_obs, dt, f.floats()?, f.moment()?, f.float()?, f.floats()?);
+            l.refused_or(&x, |l, &x| l.float(x))
+        }
+        "pca" => {
+            let x = judge::pca(f.floats()?, f.moment()?, f.floats()?, &f.set()?);
+            l.refused_or(&x, |l, t| l.ints(t))
+        }
+        "rss" => {
+            let x = judge::rss(&f.set()?, f.floats()?, f.floats()?, f.moment()?, f.float()?);
+            l.refused_or(&x, |l, &x| l.float(x))
+        }
+        "grad" => {
+            let x = judge::grad(&f.set()?, f.floats()?, f.floats()?, f.moment()?, f.float()?);
+            l.refused_or(&x, |l, g| l.floats(g))
+        }
+        "solve" => l.refused_or(&judge::solve(f.word()?, &f.list()?, &f.list()?), |l, x| l.list(x)),
+        "search" => {
+            let x = judge::search(&f.set()?, f.floats()?, f.float()?, f.float()?);
+            l.refused_or(&x, |l, x| l.floats(x))
+        }
+        "residuals1" | "residuals2" => {
+            let x = judge::residuals(kind == "residuals2", &f.set()?, f.floats()?, &f.list()?);
+            l.refused_or(&x, |l, (v, sum)| l.list(v).float(*sum))
+        }
+        "step1" | "step2" => {
+            let (s, rec) = (f.set()?, f.floats()?);
+            let from = judge::State { set: f.list()?, damping: f.float()?, best: f.float()?, kept: f.list()? };
+            let x = if kind == "step1" { judge::first(&s, rec, from, 1) } else { judge::second(&s, rec, from, 1) };
+            l.refused_or(&x, put_state)
+        }
+        "fit" => {
+            let x = judge::fit(&f.set()?, f.floats()?, f.float()?, f.float()?);
+            l.refused_or(&x, |l, f| {
+                let biases: Vec<f64> = f.biases.concat();
+                l.floats(&f.orbit).int(f.epoch).list(&biases).float(f.sum).list(&f.log).word(f.positions)
+            })
+        }
+        "lines" => {
+            let x = judge::lines(&f.bytes()?, f.floats()?, f.moment()?);
+            l.refused_or(&x, |l, t| l.bytes(t))
+        }
+        "checksum" => l.word(judge::checksum(std::str::from_utf8(&f.bytes()?).ok()?) as u64),
+        "file" => l.refused_or(&judge::file(&f.bytes()?), |l, f| {
+            l.word(f.seen as u64).bytes(&f.name).float(f.center).ints(&f.times).list(&f.freqs)
+        }),
+        "load" => l.refused_or(&judge::load(&f.bytes()?), |l, s| {
+            let counts: Vec<i64> = s.counts.iter().map(|&n| n as i64).collect();
+            l.ints(&counts).ints(&s.times).list(&s.freqs)
+        }),
+        _ => l.float(judge::floats::one(kind, f.float()?)?),
+    };
+    given.done().then_some(l)
+}
