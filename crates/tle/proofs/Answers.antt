@@ -27,7 +27,7 @@ pub line2-length : (o : SolvedOrbit) → length (line2 o) ≡ 69
 unfolding line2 closed body2 text
 line2-length o = refl
 
-catalog-length : (name : List ℕ) (o : SolvedOrbit) → length (catalogOf name o) ≡ length name + 141
+pub catalog-length : (name : List ℕ) (o : SolvedOrbit) → length (catalogOf name o) ≡ length name + 141
 unfolding catalogOf
 catalog-length name o = simp (length-append) (let a = line1-length (epochOf (o .epoch)) in let b = line2-length o in omega (arith, a, b))
 

@@ -2,3 +2,4 @@ pub mod Elements
 pub mod Lines
 pub mod Answer
 pub mod Printed
+pub mod Example
