@@ -11,7 +11,7 @@ use lib.ListN.{length, getD}
 use lib.Ieee.{Float, nan, lt, isNan}
 use borrow.Author.Tests.{eqb-true, eqb-false, leb-true, ltb-false}
 use Rattle.refusal.specs.Numbers as refusal
-use Rattle.refusal.specs.Order.{first, _if_}
+use Rattle.refusal.specs.Order.{Refusal, first, _if_}
 use Rattle.float.specs.Ops.{bits}
 use Rattle.frame.specs.declared.Vec3.{Vec3}
 use Rattle.moment.specs.Sample.{timesInRange}
@@ -29,8 +29,8 @@ use Rattle.arguments.specs.Refusals.{
   scratchSize,
   Room,
   enough,
+  inputRefusals,
   inputRefusalOf,
-  refusalOf,
   Guess,
   Accepted,
   Roomy,
@@ -147,8 +147,8 @@ none true true false false false false true h = absurd (omega (arith, h))
 none true true false false false false false h =
     record { sizes = refl; moments = refl; numbers = refl; range = refl; frequencies = refl; passes = refl; samples = refl }
 
--- a refusal of the input is the fit's; without one the room decides
-early : (a b c d e f g r : Bool) (n : ℕ)
+-- a refusal of the input comes first; without one the rest of the list decides
+then-rest : (a b c d e f g : Bool) (rest : List Refusal) (n : ℕ)
     → n ≡ first (
     (refusal.sizes if a)
     ∷ (refusal.moment-range if b)
@@ -159,7 +159,7 @@ early : (a b c d e f g r : Bool) (n : ℕ)
     ∷ (refusal.few-samples if g)
     ∷ []
     )
-    → cond (eqb n 0) (first ((refusal.short-memory if r) ∷ [])) n ≡ first (
+    → cond (eqb n 0) (first rest) n ≡ first (
     (refusal.sizes if a)
     ∷ (refusal.moment-range if b)
     ∷ (refusal.nan-argument if c)
@@ -167,17 +167,16 @@ early : (a b c d e f g r : Bool) (n : ℕ)
     ∷ (refusal.nan-frequency if e)
     ∷ (refusal.few-passes if f)
     ∷ (refusal.few-samples if g)
-    ∷ (refusal.short-memory if r)
-    ∷ []
+    ∷ rest
     )
-early true b c d e f g r n h = rw h
-early false true c d e f g r n h = rw h
-early false false true d e f g r n h = rw h
-early false false false true e f g r n h = rw h
-early false false false false true f g r n h = rw h
-early false false false false false true g r n h = rw h
-early false false false false false false true r n h = rw h
-early false false false false false false false r n h = rw h
+then-rest true b c d e f g rest n h = rw h
+then-rest false true c d e f g rest n h = rw h
+then-rest false false true d e f g rest n h = rw h
+then-rest false false false true e f g rest n h = rw h
+then-rest false false false false true f g rest n h = rw h
+then-rest false false false false false true g rest n h = rw h
+then-rest false false false false false false true rest n h = rw h
+then-rest false false false false false false false rest n h = rw h
 
 module _ (counts : List ℕ) (times : List ℤ) (freqs centers : List Float) (rec : Vec3) (a i : Float) where
   pub accepted : inputRefusalOf counts times freqs centers rec a i ≡ 0 → Accepted counts times freqs centers rec a i
@@ -202,13 +201,11 @@ module _ (counts : List ℕ) (times : List ℤ) (freqs centers : List Float) (re
         samples = ltb-false (length times) (4 + length (nonEmpty counts)) (s .samples);
       }
 
-  -- 21 comes last
-  pub then-room : (n : ℕ) (room : Room) → n ≡ inputRefusalOf counts times freqs centers rec a i
-      → cond (eqb n 0) (first ((refusal.short-memory if not (enough (length times) (length (nonEmpty counts)) room)) ∷ [])) n
-      ≡ refusalOf counts times freqs centers rec a i room
-  unfolding inputRefusalOf refusalOf
-  then-room n room h =
-      early
+  pub then : (n : ℕ) (rest : List Refusal) → n ≡ inputRefusalOf counts times freqs centers rec a i
+      → cond (eqb n 0) (first rest) n ≡ first (inputRefusals counts times freqs centers rec a i rest)
+  unfolding inputRefusalOf
+  then n rest h =
+      then-rest
       (not (sizesAgree counts (length times) (length freqs) (length centers)))
       (not (timesInRange times))
       (nanArgument rec a i)
@@ -216,7 +213,7 @@ module _ (counts : List ℕ) (times : List ℤ) (freqs centers : List Float) (re
       (anyNan freqs)
       (ltb (length (nonEmpty counts)) 2)
       (ltb (length times) (4 + length (nonEmpty counts)))
-      (not (enough (length times) (length (nonEmpty counts)) room))
+      rest
       n
       h
 

@@ -63,7 +63,7 @@ pub enum Sum {
 
 // ---- a set's parts
 
-fn elements_of(x: [f64; PARAMS]) -> Elements
+pub fn elements_of(x: [f64; PARAMS]) -> Elements
     ensures { λ r. ⌜ r ≡ elementsOf x ⌝ }
 {
     Elements {

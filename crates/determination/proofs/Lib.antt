@@ -1,0 +1,4 @@
+pub mod Sets
+pub mod Demand
+pub mod Calls
+pub mod Table

@@ -1,0 +1,28 @@
+-- Document 01's table holds, by computation. Assumes nothing.
+use mathlib.Core.Path.{refl}
+use lib.Ieee.{neg, ofBits, round, ofInt, toUnsigned, add, sub, mul, div, lt, eq, isNan}
+use Rattle.loops.specs.Loop.{for, turns, rev, try, tried}
+use Rattle.roots.specs.Root.{sqrtOf}
+use Rattle.float.specs.Ops.{absOf, one, two, floorOf}
+use Rattle.moment.specs.Time.{secondsOf, unitsOf}
+use Rattle.moment.specs.Range.{inRange}
+use Rattle.moment.specs.Sample.{timeInRange, timesInRange, shifted}
+use Rattle.moment.specs.Calendar.{leap, monthLength, tomorrowIn, dateOf}
+use Rattle.frame.specs.Julian.{jdOf, julianOf, dayFraction, jdAt, datetimeToJdOf}
+use Rattle.pass_set.specs.PassSet.{total, sizesAgree}
+use Rattle.linear.specs.Elimination.{leastPivot, largerPivot, pivotRow, swapEntries, swapRows, eliminateEntry, eliminateRow, eliminateBelow, reduceColumn, forwardElimination, addTerm, substituteRow, backSubstitution, augmentEntry, augmentRow, augmented, solutionOf}
+use Rattle.linear.specs.Answer as linear
+use Rattle.monna.specs.Rng.{drawOf}
+use Rattle.monna.specs.Digits.{monnaOf, inverseOf, distanceOf, digits, placed, taken, clampOf, margin, times, valuation, raised}
+use Rattle.monna.specs.Answers.{baseRefusal, digitsRefusal, monnaMapOf, pAdicDistanceOf, inverseMonnaMapOf}
+use Rattle.monna.specs.History.{differencesOf, differenceAt, cellOf, quotientOf, leastDistance, table}
+use Rattle.arguments.specs.Passes.{nonEmpty}
+use Rattle.arguments.specs.Refusals.{leastA, mostA, pi, nanArgument, outOfRange, anyNan, scratchSize, enough}
+use Rattle.fit.specs.Answer.{refusalOf}
+use Rattle.tle.specs.Lines.{sumOf, checksumOf}
+use Rattle.determination.specs.Table as document
+use Rattle.determination.specs.Table.{Hold}
+
+pub holds : Hold document.table
+unfolding document.table neg ofBits round ofInt toUnsigned add sub mul div lt eq isNan for turns rev try tried sqrtOf absOf one two floorOf secondsOf unitsOf inRange timeInRange timesInRange shifted leap monthLength tomorrowIn dateOf jdOf julianOf dayFraction jdAt datetimeToJdOf total sizesAgree leastPivot largerPivot pivotRow swapEntries swapRows eliminateEntry eliminateRow eliminateBelow reduceColumn forwardElimination addTerm substituteRow backSubstitution augmentEntry augmentRow augmented solutionOf linear.refusalOf drawOf monnaOf inverseOf distanceOf digits placed taken clampOf margin times valuation raised baseRefusal digitsRefusal monnaMapOf pAdicDistanceOf inverseMonnaMapOf differencesOf differenceAt cellOf quotientOf leastDistance table nonEmpty leastA mostA pi nanArgument outOfRange anyNan scratchSize enough refusalOf sumOf checksumOf
+holds = (refl, (refl, (refl, (refl, (refl, (refl, (refl, (refl, (refl, (refl, (refl, (refl, (refl, (refl, (refl, (refl, (refl, tt)))))))))))))))))

@@ -1,0 +1,117 @@
+-- Parts of lists, and writing the outputs. Assumes nothing.
+use mathlib.Core.Path.{_≡_, refl, sym, ap, _∙_}
+use mathlib.Core.Bool.{Bool, true, false, _||_}
+use mathlib.Core.List.{List, [], _∷_, _++_, append-assoc}
+use Prim.Native.Nat.{ℕ, zero, suc, _+_, _*_, _≤_, _<_}
+use native.Mathlib.Numerals.{add-one}
+use native.Mathlib.Omega.{arith}
+use lib.ListN.{length, getD, take, drop, set, length-append}
+use lib.Seq.{take-suc, drop-cons, set-at, take-length, length-take-le}
+use lib.IntN.{ℤ}
+use lib.Ieee.{Float, nan, lt}
+use Rattle.float.specs.Ops.{absOf}
+use Rattle.residuals.specs.Residuals.{at}
+use Rattle.solution.specs.declared.SolvedOrbit.{SolvedOrbit}
+use Rattle.trials.specs.declared.Trials.{Trials}
+use Rattle.fit.specs.Answer.{largestOffset, biases, anyLarge, orbitOf, Outputs, outputs, over}
+use Rattle.fit.specs.Work.{Puts}
+
+-- ---- the first places
+
+pub prefix : (n : ℕ) (l : List ℕ) → n ≤ length l → n ≡ length (take n l)
+prefix n l h = sym (length-take-le n l h)
+
+-- one more number behind those written
+more : (done : List Float) (v : Float) (old out : List Float) (n : ℕ) → length done ≡ n → n < length old → out ≡ done ++ drop n old
+    → set out n v ≡ (done ++ (v ∷ [])) ++ drop (n + 1) old
+more done v old out n size h e =
+    ap (λ (l : List Float). set l n v) (e ∙ ap (done ++_) (drop-cons old n nan h))
+    ∙ set-at done _ (drop (suc n) old) v n size
+    ∙ sym (append-assoc done (v ∷ []) (drop (suc n) old))
+    ∙ ap (λ (k : ℕ). (done ++ (v ∷ [])) ++ drop k old) (sym (add-one n))
+
+-- ---- a list
+
+pub put-more : (from old out : List Float) (p : ℕ) → p < length from → p < length old → out ≡ take p from ++ drop p old
+    → set out p (getD from p nan) ≡ take (p + 1) from ++ drop (p + 1) old
+put-more from old out p h k e =
+    more (take p from) _ old out p (length-take-le p from (omega arith)) k e
+    ∙ ap (λ (l : List Float). l ++ drop (p + 1) old) (sym (ap (λ (n : ℕ). take n from) (add-one p) ∙ take-suc from p nan h))
+
+pub put-all : (from old out : List Float) (p : ℕ) → p ≤ length from → length from ≤ p → out ≡ take p from ++ drop p old → out ≡ from ++ drop (length from) old
+put-all from old out p h k e =
+    let same : p ≡ length from = omega arith in
+    rw (same, take-length) at e
+
+-- ---- biases
+
+pub length-biases : (k : ℕ) (x : List Float) (n : ℕ) → length (biases k x n) ≡ n
+unfolding biases
+length-biases k x zero = refl
+length-biases k x (suc n) = length-append (biases k x n) (at x (4 + 4 * n + k) ∷ []) ∙ ap (_+ 1) (length-biases k x n) ∙ add-one n
+
+biases-next : (k : ℕ) (x : List Float) (n : ℕ) → biases k x (n + 1) ≡ biases k x n ++ (at x (4 + 4 * n + k) ∷ [])
+unfolding biases
+biases-next k x n = ap (biases k x) (add-one n)
+
+pub bias-more : (k : ℕ) (x old out : List Float) (p : ℕ) → p < length old → out ≡ biases k x p ++ drop p old
+    → set out p (at x (4 + 4 * p + k)) ≡ biases k x (p + 1) ++ drop (p + 1) old
+bias-more k x old out p h e =
+    more (biases k x p) _ old out p (length-biases k x p) h e ∙ ap (λ (l : List Float). l ++ drop (p + 1) old) (sym (biases-next k x p))
+
+pub all-biases : (k : ℕ) (x old out : List Float) (p n : ℕ) → p ≤ n → n ≤ p → out ≡ biases k x p ++ drop p old → out ≡ biases k x n ++ drop n old
+all-biases k x old out p n h l e =
+    let same : p ≡ n = omega arith in
+    rw same at e
+
+-- ---- one more offset
+
+any-snoc : (l : List Float) (d : Float) → anyLarge (l ++ (d ∷ [])) ≡ (anyLarge l || lt largestOffset (absOf d))
+unfolding anyLarge
+any-snoc [] d = or-false (lt largestOffset (absOf d))
+  where
+    or-false : (b : Bool) → (b || false) ≡ b
+    or-false true = refl
+    or-false false = refl
+any-snoc (c ∷ l) d = ap (lt largestOffset (absOf c) ||_) (any-snoc l d) ∙ or-assoc (lt largestOffset (absOf c)) (anyLarge l) (lt largestOffset (absOf d))
+  where
+    or-assoc : (a b c : Bool) → (a || (b || c)) ≡ ((a || b) || c)
+    or-assoc true b c = refl
+    or-assoc false b c = refl
+
+pub large-more : (x : List Float) (p : ℕ) (large r : Bool) → large ≡ anyLarge (biases 1 x p) → r ≡ (large || lt largestOffset (absOf (at x (4 + 4 * p + 1))))
+    → r ≡ anyLarge (biases 1 x (p + 1))
+large-more x p large r e h =
+    h
+    ∙ ap (_|| lt largestOffset (absOf (at x (4 + 4 * p + 1)))) e
+    ∙ sym (any-snoc (biases 1 x p) (at x (4 + 4 * p + 1)))
+    ∙ ap anyLarge (sym (biases-next 1 x p))
+
+pub all-large : (x : List Float) (p n : ℕ) (large : Bool) → p ≤ n → n ≤ p → large ≡ anyLarge (biases 1 x p) → large ≡ anyLarge (biases 1 x n)
+all-large x p n large h k e =
+    let same : p ≡ n = omega arith in
+    rw same at e
+
+-- ---- the answer's trials
+
+pub take-fits : (count m : ℕ) (sums : List Float) → count ≤ length sums → length sums ≤ m → length (take count sums) ≤ m
+take-fits count m sums h k = omega (arith, length-take-le count sums h)
+
+-- written to the first places
+over-is : (k : ℕ) (x : List Float) (n : ℕ) (old d : List Float) → d ≡ biases k x n ++ drop n old → d ≡ over (biases k x n) old
+over-is k x n old d e = e ∙ ap (λ (m : ℕ). biases k x n ++ drop m old) (sym (length-biases k x n))
+
+pub puts : (t : Trials) (n : ℕ) (times : List ℤ) (sums : List Float) (o : Outputs) (d f g h l : List Float) (q : SolvedOrbit)
+    → d ≡ biases 0 (t .state .«best_params») n ++ drop n (o .dts)
+    → f ≡ biases 1 (t .state .«best_params») n ++ drop n (o .dfs)
+    → g ≡ biases 2 (t .state .«best_params») n ++ drop n (o .df1s)
+    → h ≡ biases 3 (t .state .«best_params») n ++ drop n (o .df2s)
+    → l ≡ take (t .count) sums ++ drop (length (take (t .count) sums)) (o .log)
+    → q ≡ orbitOf (t .state .«best_params») times
+    → Puts t n times sums o (outputs d f g h l) (record { refusal = 0; orbit = q; trials = t .count; best = t .state .best })
+puts t n times sums o d f g h l q a b c e i j =
+    let x : List Float = t .state .«best_params» in
+    record {
+      answered = rw j;
+      written = rw (over-is 0 x n (o .dts) d a, over-is 1 x n (o .dfs) f b, over-is 2 x n (o .df1s) g c, over-is 3 x n (o .df2s) h e, i);
+    }

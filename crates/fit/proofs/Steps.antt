@@ -1,0 +1,166 @@
+-- The steps of the fit, joined to its definitions. Assumes nothing.
+use mathlib.Core.Path.{_≡_, sym, ap, _∙_}
+use mathlib.Core.Bool.{Bool, true, false}
+use mathlib.Core.List.{List, [], _∷_}
+use Prim.Native.Nat.{ℕ, _+_, _*_, _≤_, _<_}
+use native.Mathlib.Nat.{le-trans, mul-le-mul, mul-le-mul-left}
+use native.Mathlib.Omega.{arith}
+use lib.Dec.{leb}
+use lib.IntN.{ℤ}
+use lib.ListN.{length, getD, take}
+use lib.Seq.{length-take-le}
+use lib.Ieee.{Float}
+use Rattle.refusal.specs.Order.{first}
+use Rattle.moment.specs.Range.{Within}
+use Rattle.moment.specs.Sample.{Timed}
+use Rattle.moment.specs.declared.Instant.{Instant}
+use Rattle.moment.proofs.Samples.{within-sound}
+use Rattle.orbit.specs.declared.Elements.{Elements}
+use Rattle.pass_set.specs.PassSet.{startOf}
+use Rattle.pass_set.proofs.Laws.{start-zero, start-next, start-fits}
+use Rattle.search.specs.Sum.{sumOf}
+use Rattle.search.specs.Search.{searchOf}
+use Rattle.search.specs.declared.Found.{Found}
+use Rattle.residuals.specs.Samples.{passesOf, countsAt, Dated, Rotations}
+use Rattle.residuals.specs.Residuals.{rowsOf, placeOf, elementsOf, penalisedSum}
+use Rattle.residuals.specs.declared.Station.{Station}
+use Rattle.residuals.proofs.Samples.{counts-length, counts-dated}
+use Rattle.book.specs.Book.{Search, book}
+use Rattle.trials.specs.Trials as trials
+use Rattle.trials.specs.Trials.{stepOf, RunsTo, Fits}
+use Rattle.trials.specs.declared.Trials.{Trials}
+use Rattle.trials.specs.declared.State.{State}
+use Rattle.start.specs.Start.{startingSet}
+use Rattle.start.proofs.Given.{first-passes}
+use Rattle.arguments.specs.Refusals.{scratchSize}
+use Rattle.fit.specs.Fit.{Observations, observed, epochOf, firstTwo, bestStart, startElements, refined, refinedTwo, firstBook, trialBook}
+use Rattle.fit.specs.Answer.{isFar, searchRefusals}
+use Rattle.fit.specs.Work.{Refines, Two, Given, Ends, Solves}
+
+-- ---- the start
+
+pub elements-found : (a i : Float) (x : Observations) (epoch : Instant) (f : Found) → epoch ≡ epochOf x
+    → f ≡ searchOf (sumOf (x .counts) (x .times) (x .freqs) (x .center ∷ x .center ∷ []) (record { «rec_ecef» = x .rec; a = a; i = i; epoch = epoch; «center_freq» = x .center })) 0 144
+    → _≡_ {A = Elements} (record { a = a; i = i; raan0 = f .raan0; u0 = f .u0 }) (startElements a i x)
+unfolding startElements bestStart
+elements-found a i x epoch f e h = rw (h, e)
+
+-- ---- a refinement
+
+module _ (times : List ℤ) (moments : List ℕ) (is : moments ≡ countsAt times) where
+  pub moments-length : length moments ≡ length times
+  moments-length = ap length is ∙ counts-length times
+
+  pub moments-dated : Timed times → Dated moments
+  moments-dated h = rw is (counts-dated times h)
+
+module _ {second : Bool} {most : ℕ} {counts : List ℕ} {times : List ℤ} {freqs : List Float} {log scratch : ℕ} (s : Refines second most counts times freqs log scratch) where
+  pub asks : (g : Station) (moments : List ℕ) (turns : List Float) (room : ℕ) → moments ≡ countsAt times → Within 0 (g .epoch .secs) (g .epoch .nanos) → Rotations moments turns
+      → room ≡ scratch → Fits second g (passesOf counts moments freqs) turns room
+  asks g moments turns room is w t e =
+      let same = moments-length times moments is in
+      record {
+        samples = record {
+          epoch = within-sound 0 (g .epoch .secs) (g .epoch .nanos) (omega arith) w;
+          few = s .set .sizes .few;
+          small = rw same (s .set .sizes .small);
+          whole = s .set .sizes .whole ∙ sym same;
+          pairs = s .set .sizes .pairs ∙ sym same;
+          turned = t;
+        };
+        table = rw (same, e) (s .table);
+      }
+
+pub runs-refined : (second enough : Bool) (most : ℕ) (e : Elements) (x : Observations) (moments : List ℕ) (epoch : Instant) (start old log : List Float) (t : Trials)
+    → moments ≡ countsAt (x .times) → epoch ≡ epochOf x
+    → start ≡ startingSet (x .counts) (x .times) (x .freqs) (x .center) (x .rec) epoch e second
+    → RunsTo (book (penalisedSum second (record { epoch = epoch; «center_freq» = x .center; «rec_ecef» = x .rec }) (passesOf (x .counts) moments (x .freqs)))
+    (stepOf second (record { epoch = epoch; «center_freq» = x .center; «rec_ecef» = x .rec }) (passesOf (x .counts) moments (x .freqs))) enough start most) old log t
+    → RunsTo (refined second enough most e x) old log t
+unfolding refined
+runs-refined second enough most e x moments epoch start old log t m q s r = rw (s, q, m) at r
+
+-- ---- two passes
+
+pub two-refines : {counts : List ℕ} {times : List ℤ} {freqs : List Float} {scratch : ℕ} (room : ℕ) → room ≡ scratch → Two counts times freqs scratch
+    → Refines false 100 counts times freqs 100 room
+unfolding rowsOf placeOf
+two-refines room e s =
+    record { set = s .set; some = s .some; log-room = omega arith; few = omega arith; table = rw (s .two, e) (s .table) }
+
+pub two-ends : (a i : Float) (x : Observations) (e : Elements) (rows : ℕ) (old log : List Float) (t : Trials) → e ≡ startElements a i x → rows ≡ rowsOf false (length (x .times)) (length (x .counts))
+    → RunsTo (refined false (leb 8 rows) 100 e x) old log t → Ends (refinedTwo a i x) (t .state)
+unfolding refinedTwo
+two-ends a i x e rows old log t h k r =
+    let q = rw (h, k) at r in
+    record { search = q .search; ended = q .ended }
+
+-- ---- the first two of some passes
+
+pub two-start : (counts : List ℕ) → 2 ≤ length counts → getD counts 0 0 + getD counts 1 0 ≡ startOf counts 2
+two-start counts h =
+    omega (arith, start-zero counts, start-next counts 0 (omega arith), start-next counts 1 (omega arith))
+
+module _ {counts : List ℕ} {times : List ℤ} {freqs : List Float} {scratch : ℕ} (s : Given counts times freqs scratch) where
+  pub two-fits : getD counts 0 0 + getD counts 1 0 ≤ length times
+  two-fits = omega (arith, two-start counts (s .two), start-next counts 1 (omega (arith, s .two)), start-fits counts 1 (omega (arith, s .two)), s .set .sizes .whole)
+
+  pub some-times : 0 < length times
+  some-times = omega (arith, two-fits, s .set .each 0 (omega (arith, s .two)))
+
+  pub gives-two : (n : ℕ) → n ≡ getD counts 0 0 + getD counts 1 0 → Two (take 2 counts) (take n times) (take n freqs) scratch
+  unfolding scratchSize
+  gives-two n e =
+      let at : n ≡ startOf counts 2 = e ∙ two-start counts (s .two) in
+      let size : length (take n times) ≡ n = length-take-le n times (omega (arith, two-fits, e)) in
+      record {
+        set = rw at (first-passes 2 (s .set));
+        two = length-take-le 2 counts (s .two);
+        some = omega (arith, size, e, s .set .each 0 (omega (arith, s .two)));
+        rotations = omega (arith, s .room);
+        table = rw size (le-trans (mul-le-mul (wide {t = length times} {p = length counts} n (omega (arith, two-fits, e)) (s .two)) (deep {p = length counts} (s .two))) (omega (arith, s .room)));
+      }
+    where
+      wide : {t p : ℕ} (n : ℕ) → n ≤ t → 2 ≤ p → n + 2 ≤ t + 3 * p
+      wide n h k = omega arith
+
+      deep : {p : ℕ} → 2 ≤ p → 8 ≤ 5 + 4 * p
+      deep k = omega arith
+
+pub first-ends : (a i : Float) (x : Observations) (n : ℕ) (s : State) → n ≡ startOf (x .counts) 2
+    → Ends (refinedTwo a i (observed (take 2 (x .counts)) (take n (x .times)) (take n (x .freqs)) (x .center) (x .rec))) s → Ends (firstBook a i x) s
+unfolding firstBook firstTwo startOf
+first-ends a i x n s k r = rw k at r
+
+-- ---- both
+
+table-all : (t p room : ℕ) → (t + 3 * p) * (5 + 4 * p) + 20000 ≤ room → (t + 3 * p) * (4 + 4 * p) ≤ room
+table-all t p room h =
+    let m = mul-le-mul-left {m = 4 + 4 * p} {n = 5 + 4 * p} (t + 3 * p) (omega arith) in
+    omega (arith, m, h)
+
+pub all-refines : {counts : List ℕ} {times : List ℤ} {freqs : List Float} {scratch : ℕ} (log room : ℕ) → 150 ≤ log → room ≡ scratch → Given counts times freqs scratch
+    → Refines true 150 counts times freqs log room
+unfolding rowsOf placeOf scratchSize
+all-refines {counts} {times} {freqs} {scratch} log room h e s = record {
+  set = s .set;
+  some = some-times s;
+  log-room = h;
+  few = omega arith;
+  table = rw e (table-all (length times) (length counts) scratch (s .room));
+}
+
+second-runs : (x : Observations) (a i : Float) (old log : List Float) (k : Elements) (t : Trials) → k ≡ elementsOf (firstBook a i x .search .bestSet) → RunsTo (refined true true 150 k x) old log t
+    → RunsTo (trialBook a i x) old log t
+unfolding trialBook
+second-runs x a i old log k t e r = rw e at r
+
+module _ (x : Observations) (a i : Float) (old log : List Float) (s : State) (e : Ends (firstBook a i x) s) where
+  pub solves-far : (t : Trials) → isFar (s .ended) ≡ true → Solves x a i old log (record { refusal = 23; trials = t })
+  solves-far t h = record { refused = rw (← e .ended, h); runs = λ z. absurd (omega (arith, z)) }
+
+  pub solves : (r : ℕ) (t : Trials) (k : Elements) → isFar (s .ended) ≡ false → k ≡ elementsOf (s .«best_params») → RunsTo (refined true true 150 k x) old log t
+      → r ≡ first (searchRefusals (t .state .ended) (trials.searchOf (t .state)) (length (x .counts))) → Solves x a i old log (record { refusal = r; trials = t })
+  solves r t k h q run is =
+      let b = second-runs x a i old log k t (q ∙ ap (λ (y : Search). elementsOf (y .bestSet)) (e .search)) run in
+      record { refused = rw (← e .ended, h, ← b .ended, ← b .search) is; runs = λ z. b }
