@@ -11,13 +11,18 @@ pub const KINDS: &[&str] = &[
     "max", "min", "rem_euclid", "to_u64", "to_i64", "wrapping_mul", "draw", "gaussian", "monna", "unmonna", "padic",
     "history", "normal", "jd", "teme", "wgs84", "prop", "pred", "poly", "pca", "rss", "grad", "solve", "search",
     "residuals1", "residuals2", "step1", "step2", "fit", "lines", "checksum", "file",
-    "load",
+    "load", "determine",
 ];
 
 /// Whether an answer of the kind begins with a refusal.
 pub fn refuses(kind: &str) -> bool {
     let at = KINDS.iter().position(|&k| k == kind);
     at >= KINDS.iter().position(|&k| k == "monna") && !["normal", "teme", "wgs84", "checksum"].contains(&kind)
+}
+
+/// A fit and its lines, asked from stored bytes.
+pub fn determination(l: Line, bytes: &[u8], c: &Case, name: &[u8]) -> Line {
+    l.bytes(bytes).list(&c.set.centers).floats(&c.receiver).float(c.a).float(c.i).bytes(name)
 }
 
 /// Whether the fit lets the set by up to its work.
@@ -139,6 +144,11 @@ pub fn fields(kind: &str, seed: u64, k: u64) -> Vec<u64> {
         "fit" => {
             let c = simulator::any(seed.wrapping_add(k));
             l.set(&c.set).floats(&c.receiver).float(c.a).float(c.i)
+        }
+        "determine" => {
+            let c = simulator::any(seed.wrapping_add(k));
+            let bytes = if r.one_in(8) { files::stored(r.word(), &c.set) } else { c.set.stored() };
+            determination(l, &bytes, &c, &cases::name(r))
         }
         "lines" => l.bytes(&cases::name(r)).floats(&cases::printed(r)).moment(cases::moment(r)),
         "checksum" => {

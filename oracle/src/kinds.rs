@@ -75,6 +75,18 @@ pub fn answered(kind: &str, fields: &[u64]) -> Option<Line> {
                 l.floats(&f.orbit).int(f.epoch).list(&biases).float(f.sum).list(&f.log).word(f.positions)
             })
         }
+        "determine" => {
+            let (bytes, centers) = (f.bytes()?, f.list()?);
+            let (rec, a, i, name) = (f.floats()?, f.float()?, f.float()?, f.bytes()?);
+            let x = judge::load(&bytes).and_then(|s| judge::fit(&common::Set { centers, ..s }, rec, a, i));
+            l.refused_or(&x, |l, x| {
+                let bias = |k: usize| x.biases.iter().map(|b| b[k]).collect::<Vec<f64>>();
+                let epoch = common::Moment::of_nanos(x.epoch);
+                let l = l.floats(&x.orbit).moment(epoch).float(x.sum).list(&x.log);
+                let l = l.list(&bias(0)).list(&bias(1)).list(&bias(2)).list(&bias(3));
+                l.refused_or(&judge::lines(&name, x.orbit, epoch), |l, t| l.bytes(t))
+            })
+        }
         "lines" => {
             let x = judge::lines(&f.bytes()?, f.floats()?, f.moment()?);
             l.refused_or(&x, |l, t| l.bytes(t))

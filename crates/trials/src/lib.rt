@@ -87,10 +87,10 @@ fn judge(s: State, sum: f64) -> State
     ensures { λ r. ⌜ afterOf r ≡ judged sum (searchOf s) ⌝ }
 {
     if sum < s.best {
-        let x = s.params;
+        let tried = s.params;
         return State {
-            params: x,
-            best_params: x,
+            params: tried,
+            best_params: tried,
             damping: s.damping / 10.0,
             best: sum,
             ended: Ending::Running,
