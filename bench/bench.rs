@@ -214,4 +214,34 @@ fn main() {
             )
         }),
     ]);
+
+    // Files of 4,096 samples: frequencies with three places, with as many digits as an f64 needs, and with an exponent.
+    let kinds: [(&str, fn(f64) -> String); 3] =
+        [("three places", |f| format!("{f:.3}")), ("17 digits", |f| format!("{f:.8}")), ("exponent", |f| format!("{f:.11e}"))];
+    for (kind, write) in kinds {
+        let mut bytes = b"#Satellite_Name: HERD-1\n#Center_Frequency: 150800000\nutc_timestamp,f\n".to_vec();
+        for k in 0..4096 {
+            let f = r.between(150.79e6, 150.81e6);
+            let line = format!("2026-06-12T{:02}:{:02}:{:02}.{:03}Z,{}\n", k / 3600, k / 60 % 60, k % 60, r.below(1000), write(f));
+            bytes.extend(line.bytes());
+        }
+        patched::input::set(&bytes);
+        published::input::set(&bytes);
+        let bytes = &bytes;
+        bench(&format!("`read_pass_file`, {kind}"), rounds, 1, [
+            Box::new(move || {
+                let (mut times, mut freqs) = (vec![0; 4096], vec![0.0; 4096]);
+                let (mut numbers, mut center) = ([0; 4], 0.0);
+                let refusal = unsafe {
+                    port::wisvalom_read_pass_file(
+                        bytes.as_ptr(), bytes.len(), times.as_mut_ptr(), 4096, freqs.as_mut_ptr(), 4096, &mut numbers, &mut center,
+                    )
+                };
+                assert!(refusal == 0 && numbers[0] == 4096);
+                black_box((times, freqs));
+            }),
+            Box::new(|| assert!(black_box(patched::orbit_solver::read_pass_file("").unwrap()).points.len() == 4096)),
+            Box::new(|| assert!(black_box(published::orbit_solver::read_pass_file("").unwrap()).points.len() == 4096)),
+        ]);
+    }
 }

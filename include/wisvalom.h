@@ -46,6 +46,11 @@ uint32_t wisvalom_p_adic_distance(uint64_t a, uint64_t b, uint64_t p, double *ou
 uint32_t wisvalom_compute_fractional_difference_history(const double *x, size_t n, double *out, size_t room);
 void wisvalom_map_to_normalized_search_space(const double coord[3], double out[15]);
 
+/* A pass file: its samples' times (nanoseconds since 1970) and frequencies, each into an array of its own. numbers takes the count of
+ * samples, the name's start and end in the file, and 1 if a name was seen, else 0. Refuses: 1 to 5, 21. */
+uint32_t wisvalom_read_pass_file(const uint8_t *file, size_t n, int64_t *times, size_t n_times, double *freqs, size_t n_freqs,
+                                 size_t numbers[4], double *center_freq);
+
 #ifdef __cplusplus
 }
 #endif

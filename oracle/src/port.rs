@@ -7,6 +7,7 @@ pub use patched::judge::{Answer, File, Fit, State};
 
 pub const KINDS: &[&str] = &[
     "sqrt", "cbrt", "sin", "cos", "jd", "prop", "pred", "poly", "monna", "unmonna", "padic", "history", "normal",
+    "file",
 ];
 
 #[link(name = "exports", kind = "static")]
@@ -39,6 +40,9 @@ unsafe extern "C" {
     pub fn wisvalom_p_adic_distance(a: u64, b: u64, p: u64, out: *mut f64) -> u32;
     pub fn wisvalom_compute_fractional_difference_history(x: *const f64, n: usize, out: *mut f64, room: usize) -> u32;
     pub fn wisvalom_map_to_normalized_search_space(coord: *const f64, out: *mut f64);
+    pub fn wisvalom_read_pass_file(
+        file: *const u8, n: usize, times: *mut i64, n_times: usize, freqs: *mut f64, n_freqs: usize, numbers: *mut [usize; 4], center_freq: *mut f64,
+    ) -> u32;
 }
 
 /// Memory lent to a call: `n` places between guards, all filled with a pattern.
@@ -209,8 +213,23 @@ pub fn lines(_: &[u8], _: [f64; 4], _: Moment) -> Answer<Vec<u8>> {
 pub fn checksum(_: &str) -> u32 {
     unimplemented!()
 }
-pub fn file(_: &[u8]) -> Answer<File> {
-    unimplemented!()
+pub fn file(bytes: &[u8]) -> Answer<File> {
+    let room = 4096;
+    let (mut times, mut freqs) = (Lent::new(room, i64::MIN), Lent::new(room, PATTERN));
+    let (mut numbers, mut center) = ([usize::MAX; 4], PATTERN);
+    let refusal = unsafe {
+        wisvalom_read_pass_file(
+            bytes.as_ptr(), bytes.len(), times.start(), room, freqs.start(), room, &mut numbers, &mut center,
+        )
+    };
+    if refusal != 0 {
+        assert!(numbers == [usize::MAX; 4] && center == PATTERN, "a refusal wrote");
+        times.written(0);
+        freqs.written(0);
+        return Err(refusal);
+    }
+    let [count, start, end, seen] = numbers;
+    Ok(File { seen: seen == 1, name: bytes[start..end].to_vec(), center, times: times.written(count), freqs: freqs.written(count) })
 }
 pub fn teme(_: f64, _: [f64; 6]) -> [f64; 6] {
     unimplemented!()
