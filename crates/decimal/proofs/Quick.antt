@@ -1,17 +1,17 @@
 -- A bit pattern in words: p moves the whole part of d / b up to 53 digits, and what is left of d as far. Assumes nothing.
-use mathlib.Core.Path.{_≡_, refl, sym, ap, _∙_, subst}
+use mathlib.Core.Path.{_≡_, refl, sym, ap, _∙_}
 use mathlib.Core.Logic.{inl, inr}
 use mathlib.Core.Bool.{true}
-use Prim.Native.Nat.{ℕ, zero, suc, _+_, _-_, _*_, _/_, _%_, _^_, _≤_, _<_, compare}
-use native.Mathlib.Nat.{le-trans, le-of-eq, le-of-lt, lt-of-lt-of-le, lt-of-le-of-lt, mod-lt, div-add-mod', div-le-self, add-mul, add-assoc, mul-one, mul-assoc, mul-right-comm, mul-le-mul-right, mul-lt-mul-of-pos-right, le-div-iff-mul-le, div-lt-iff-lt-mul, le-mul-of-pos-right, eq-zero-or-pos, pow-zero}
+use Prim.Native.Nat.{ℕ, suc, _+_, _-_, _*_, _/_, _%_, _^_, _≤_, _<_, compare}
+use native.Mathlib.Nat.{le-trans, le-of-eq, le-of-lt, lt-of-lt-of-le, lt-of-le-of-lt, mod-lt, div-add-mod', div-le-self, add-mul, add-assoc, mul-one, mul-assoc, mul-right-comm, mul-le-mul-right, mul-lt-mul-of-pos-right, le-div-iff-mul-le, div-lt-iff-lt-mul, le-mul-of-pos-right, eq-zero-or-pos}
 use native.Mathlib.Omega.{arith}
 use lib.Count.{leadingZeros, leading-of-zero, leading-top}
 use lib.Pow.{pow-add, pow-pos}
-use lib.Ieee.{binary64, round, ofBits, nearest}
+use lib.Ieee.{binary64, round, nearest}
 use lib.Ieee.Nearest.{closest}
 use Rattle.decimal.specs.Ratio.{Pattern}
 use Rattle.decimal.proofs.Round.{closest-at}
-use Rattle.decimal.proofs.Near.{round-bits, closest-le, closest-ge}
+use Rattle.decimal.proofs.Near.{round-bits, closest-le}
 
 -- ---- d * p / b, by the whole part of d / b and the rest
 module _ (d b p : ℕ) (B : 0 < b) where

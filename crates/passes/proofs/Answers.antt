@@ -11,8 +11,9 @@ use lib.ListN.{length}
 use lib.Seq.{sets}
 use borrow.Author.Tests.{eq-eqb, ne-eqb, lt-ltb, le-ltb}
 use Rattle.passes.specs.Text.{lines}
-use Rattle.passes.specs.File.{zeros, timesOf, freqsOf, refusalOf, scanned, answer, Filled, Reads}
+use Rattle.passes.specs.File.{zeros, timesOf, freqsOf, refusalOf, scanned, answer, Reads}
 use Rattle.passes.specs.declared.file.PassFile.{PassFile}
+use Rattle.passes.proofs.Files.{Filled}
 
 -- ---- the refusal's number, by the tests
 module _ (p : PassFile) (nt nf : ℕ) where

@@ -2,19 +2,19 @@
 use mathlib.Core.Path.{_≡_, refl, sym, ap, _∙_, subst}
 use mathlib.Core.Bool.{Bool, true, false, cond}
 use mathlib.Core.List.{List, [], _∷_}
-use Prim.Native.Nat.{ℕ, _+_, _-_, _≤_, _<_}
-use native.Mathlib.Nat.{add-zero}
+use Prim.Native.Nat.{ℕ, suc, _+_, _-_, _≤_, _<_}
+use native.Mathlib.Nat.{add-zero, sub-zero}
 use native.Mathlib.Numerals.{add-one}
 use native.Mathlib.Omega.{arith}
 use lib.Dec.{eqb}
 use lib.IntN.{ℤ}
 use lib.Ieee.{Float}
-use lib.ListN.{length, take, drop, set, drop-of-length-le, length-drop}
-use lib.Seq.{sets, length-sets, drop-drop, length-take-le}
+use lib.ListN.{length, take, drop, set, getD, drop-of-length-le, length-drop, length-set}
+use lib.Seq.{sets, sets-eq, length-sets, drop-cons, drop-drop, length-take-le, take-append-seam}
 use borrow.Author.Tests.{eq-eqb, ne-eqb, eqb-false}
 use Rattle.passes.specs.Text.{Placed, lines, Cut}
 use Rattle.passes.specs.Line.{lineOf}
-use Rattle.passes.specs.File.{opening, advance, after, timeBefore, freqBefore, timesOf, freqsOf, scanned, Ready, Stepped, Stored, Room, Filled}
+use Rattle.passes.specs.File.{opening, advance, after, timeBefore, freqBefore, timesOf, freqsOf, scanned, Ready, Stepped, Stored, Scan}
 use Rattle.passes.specs.declared.line.Line.{Line}
 use Rattle.passes.specs.declared.line.Line.the-variants.{Skipped, Refusal, Name, Center, Sample}
 use Rattle.passes.specs.declared.file.PassFile.{PassFile}
@@ -46,10 +46,11 @@ line-at file at n next h c =
     }
 
 -- ---- one line's step
-pub stepped : {file : List ℕ} {at n : ℕ} {s r : PassFile} {x y : Line} → x ≡ lineOf (take (at + n - at) (drop at file)) → x ≡ y
-    → r ≡ advance s at y → r .count ≤ s .count + 1 → Stepped file at n s r
-stepped {file = file} {at = at} {n = n} {s = s} e g h k =
-    record { is = h ∙ ap (advance s at) (sym g ∙ e ∙ ap lineOf (same-line file at n)); count = k }
+pub stepped : {file : List ℕ} {at n : ℕ} {s r : PassFile} {x y : Line} {times times′ : List ℤ} {freqs freqs′ : List Float} → x ≡ lineOf (take (at + n - at) (drop at file))
+    → Stored x (s .count) times times′ freqs freqs′ → x ≡ y → r ≡ advance s at y → r .count ≤ s .count + 1 → Stepped file at n s times times′ freqs freqs′ r
+stepped {file = file} {at = at} {n = n} {s = s} {times = times} {times′ = times′} {freqs = freqs} {freqs′ = freqs′} e d g h k =
+    let f = e ∙ ap lineOf (same-line file at n) in
+    record { is = h ∙ ap (advance s at) (sym g ∙ f); count = k; stored = subst (λ (z : Line). Stored z (s .count) times times′ freqs freqs′) f d }
 
 -- the places of a name that a line has
 pub name-in : (file : List ℕ) (at n : ℕ) {x : Line} {a b : ℕ} → at + n ≤ length file → x ≡ lineOf (take (at + n - at) (drop at file)) → x ≡ Name a b → (at + a ≤ length file) × (at + b ≤ length file)
@@ -82,16 +83,13 @@ pub record Scanned (file : List ℕ) (at : ℕ) (s : PassFile) : Type 0 where
   pub good : s .refusal ≡ 0
   pub left : after s (lines at (drop at file)) ≡ scanned file
 
-pub scan-start : {file : List ℕ} {s : PassFile} → s ≡ opening → Scanned file 0 s
+scan-start : {file : List ℕ} {s : PassFile} → s ≡ opening → Scanned file 0 s
 unfolding opening
 scan-start {file = file} {s = s} h =
     let k : s .count ≡ 0 = ap (λ (p : PassFile). p .count) h in
     record { inside = omega arith; count = omega arith; good = ap (λ (p : PassFile). p .refusal) h; left = ap (λ (p : PassFile). after p (lines 0 file)) h }
 
-pub scan-ready : {file : List ℕ} {at n next : ℕ} {s : PassFile} → Scanned file at s → LineAt file at n next → Ready file at n s
-scan-ready a l = let i = l .inside in let z = l .size in record { room = omega arith; count = a .count }
-
-module _ {file : List ℕ} {at n next : ℕ} {s r : PassFile} (a : Scanned file at s) (l : LineAt file at n next) (t : Stepped file at n s r) where
+module _ {file : List ℕ} {at n next : ℕ} {s r : PassFile} {times times′ : List ℤ} {freqs freqs′ : List Float} (a : Scanned file at s) (l : LineAt file at n next) (t : Stepped file at n s times times′ freqs freqs′ r) where
   moved : after r (lines (at + next) (drop (at + next) file)) ≡ scanned file
   moved =
       ap (λ (p : PassFile). after p (lines (at + next) (drop (at + next) file))) (t .is)
@@ -99,24 +97,24 @@ module _ {file : List ℕ} {at n next : ℕ} {s r : PassFile} (a : Scanned file 
       ∙ ap (after s) (sym (l .is))
       ∙ a .left
 
-  pub scan-more : r .refusal ≡ 0 → Scanned file (at + next) r
+  scan-more : r .refusal ≡ 0 → Scanned file (at + next) r
   scan-more g =
       let ac = a .count in
       let tc = t .count in
       let lm = l .more in
       record { inside = l .inside; count = omega arith; good = g; left = moved }
 
-  pub scan-refused : (r .refusal ≡ 0 → ⊥) → r ≡ scanned file
+  scan-refused : (r .refusal ≡ 0 → ⊥) → r ≡ scanned file
   scan-refused g = sym (after-stop r (lines (at + next) (drop (at + next) file)) g) ∙ moved
 
-pub scan-end : {file : List ℕ} {at : ℕ} {s : PassFile} → Scanned file at s → length file ≤ at → s ≡ scanned file
+scan-end : {file : List ℕ} {at : ℕ} {s : PassFile} → Scanned file at s → length file ≤ at → s ≡ scanned file
 unfolding lines
 scan-end {file = file} {at = at} {s = s} a h =
     sym (after-none s) ∙ ap (λ (l : List ℕ). after s (lines at l)) (sym (drop-of-length-le file h)) ∙ a .left
 
 -- ---- the samples' places
-pub store-same : {x y : Line} {k r : ℕ} {times times′ : List ℤ} {freqs freqs′ : List Float} → x ≡ y → Stored y k r times times′ freqs freqs′ → Stored x k r times times′ freqs freqs′
-store-same {k = k} {r = r} {times = t} {times′ = t′} {freqs = f} {freqs′ = f′} e h = subst (λ (z : Line). Stored z k r t t′ f f′) (sym e) h
+pub store-same : {x y : Line} {k : ℕ} {times times′ : List ℤ} {freqs freqs′ : List Float} → x ≡ y → Stored y k times times′ freqs freqs′ → Stored x k times times′ freqs freqs′
+store-same {k = k} {times = t} {times′ = t′} {freqs = f} {freqs′ = f′} e h = subst (λ (z : Line). Stored z k t t′ f f′) (sym e) h
 
 time-length : (x : Line) (ts : List ℤ) → length (timeBefore x ts) ≡ length (timeBefore x []) + length ts
 time-length Skipped ts = omega arith
@@ -146,84 +144,81 @@ freq-join (Name a b) l k fs = ap (λ (m : ℕ). sets l m fs) (sym (add-zero k))
 freq-join (Center f) l k fs = ap (λ (m : ℕ). sets l m fs) (sym (add-zero k))
 freq-join (Sample t f) l k fs = ap (λ (m : ℕ). sets (set l k f) m fs) (sym (add-one k))
 
--- what is left to store gives the whole
-pub record Filling (file : List ℕ) (times₀ : List ℤ) (freqs₀ : List Float) (at k : ℕ) (times : List ℤ) (freqs : List Float) : Type 0 where
-  pub inside : at ≤ length file
-  pub room : Room (lines at (drop at file)) k times freqs
-  pub left-times : sets times k (timesOf (lines at (drop at file))) ≡ sets times₀ 0 (timesOf (lines 0 file))
-  pub left-freqs : sets freqs k (freqsOf (lines at (drop at file))) ≡ sets freqs₀ 0 (freqsOf (lines 0 file))
-  pub long-times : length times ≡ length times₀
-  pub long-freqs : length freqs ≡ length freqs₀
-
-pub fill-start : {file : List ℕ} {times : List ℤ} {freqs : List Float} → Room (lines 0 file) 0 times freqs → Filling file times freqs 0 0 times freqs
-fill-start h = record { inside = omega arith; room = h; left-times = refl; left-freqs = refl; long-times = refl; long-freqs = refl }
-
-module _ {file : List ℕ} {times₀ times : List ℤ} {freqs₀ freqs : List Float} {at k n next : ℕ} {x : Line} (a : Filling file times₀ freqs₀ at k times freqs) (l : LineAt file at n next) (e : x ≡ lineOf (take (at + n - at) (drop at file))) where
-  said : lineOf (take n (drop at file)) ≡ x
-  said = sym (e ∙ ap lineOf (same-line file at n))
-
-  ts : List ℤ
-  ts = timesOf (lines (at + next) (drop (at + next) file))
-
-  fs : List Float
-  fs = freqsOf (lines (at + next) (drop (at + next) file))
-
-  times-next : timesOf (lines at (drop at file)) ≡ timeBefore x ts
-  unfolding timesOf ts
-  times-next = ap timesOf (l .is) ∙ ap (λ (y : Line). timeBefore y (timesOf (lines (at + next) (drop (at + next) file)))) said
-
-  freqs-next : freqsOf (lines at (drop at file)) ≡ freqBefore x fs
-  unfolding freqsOf fs
-  freqs-next = ap freqsOf (l .is) ∙ ap (λ (y : Line). freqBefore y (freqsOf (lines (at + next) (drop (at + next) file)))) said
-
-  pub store-room : (k + length (timeBefore x []) ≤ length times) × (k + length (freqBefore x []) ≤ length freqs)
-  store-room =
-      let p = ap length times-next in
-      let q = ap length freqs-next in
-      let u = time-length x ts in
-      let v = freq-length x fs in
-      let w = freq-length x [] in
-      let i = a .room .in-times in
-      let j = a .room .in-freqs in
-      (omega arith, omega arith)
-
-  pub fill-more : {r : ℕ} {times′ : List ℤ} {freqs′ : List Float} → Stored x k r times times′ freqs freqs′ → Filling file times₀ freqs₀ (at + next) r times′ freqs′
-  unfolding ts fs
-  fill-more {r = r} {times′ = times′} {freqs′ = freqs′} s =
-      let p = ap length times-next in
-      let q = ap length freqs-next in
-      let u = time-length x ts in
-      let v = freq-length x fs in
-      let i = a .room .in-times in
-      let j = a .room .in-freqs in
-      let m = ap length (s .put-times) ∙ length-sets times k (timeBefore x []) in
-      let o = ap length (s .put-freqs) ∙ length-sets freqs k (freqBefore x []) in
-      let d = s .next in
-      record {
-        inside = l .inside;
-        room = record { in-times = omega arith; in-freqs = omega arith };
-        left-times = (λ z. sets (s .put-times z) (d z) ts) ∙ sym (time-join x times k ts) ∙ ap (sets times k) (sym times-next) ∙ a .left-times;
-        left-freqs = (λ z. sets (s .put-freqs z) (d z) fs) ∙ sym (freq-join x freqs k fs) ∙ ap (sets freqs k) (sym freqs-next) ∙ a .left-freqs;
-        long-times = m ∙ a .long-times;
-        long-freqs = o ∙ a .long-freqs;
-      }
-
-pub fill-end : {file : List ℕ} {times₀ times : List ℤ} {freqs₀ freqs : List Float} {at k : ℕ} → Filling file times₀ freqs₀ at k times freqs → length file ≤ at → Filled file times₀ times freqs₀ freqs
-unfolding lines timesOf freqsOf
-fill-end {file = file} {times = times} {freqs = freqs} {at = at} {k = k} a h =
-    record { put-times = ap (λ (l : List ℕ). sets times k (timesOf (lines at l))) (sym (drop-of-length-le file h)) ∙ a .left-times; put-freqs = ap (λ (l : List ℕ). sets freqs k (freqsOf (lines at l))) (sym (drop-of-length-le file h)) ∙ a .left-freqs }
-
--- ---- as many samples are counted as stored
-pub record Counted (n : ℕ) (ls : List Placed) : Type 0 where
-  pub times : n ≡ length (timesOf ls)
-  pub freqs : n ≡ length (freqsOf ls)
-
 count-next : (p : PassFile) (v : ℕ) (x : Line) → advance p v x .count ≡ p .count + length (timeBefore x [])
 count-next p v Skipped = omega arith
 count-next p v (Refusal k) = omega arith
 count-next p v (Name a b) = omega arith
 count-next p v (Center f) = omega arith
 count-next p v (Sample t f) = omega arith
+
+-- what is left to read and to store gives the whole
+pub record Scanning (file : List ℕ) (times₀ : List ℤ) (freqs₀ : List Float) (at : ℕ) (s : PassFile) (times : List ℤ) (freqs : List Float) : Type 0 where
+  pub read : Scanned file at s
+  pub left-times : sets times (s .count) (timesOf (lines at (drop at file))) ≡ sets times₀ 0 (timesOf (lines 0 file))
+  pub left-freqs : sets freqs (s .count) (freqsOf (lines at (drop at file))) ≡ sets freqs₀ 0 (freqsOf (lines 0 file))
+  pub same : length times ≡ length freqs
+  pub long-times : length times ≡ length times₀
+  pub long-freqs : length freqs ≡ length freqs₀
+
+pub scanning-start : {file : List ℕ} {s : PassFile} {times : List ℤ} {freqs : List Float} → s ≡ opening → length times ≡ length freqs → Scanning file times freqs 0 s times freqs
+unfolding opening
+scanning-start {file = file} {times = times} {freqs = freqs} h e =
+    record {
+      read = scan-start h;
+      left-times = ap (λ (p : PassFile). sets times (p .count) (timesOf (lines 0 file))) h;
+      left-freqs = ap (λ (p : PassFile). sets freqs (p .count) (freqsOf (lines 0 file))) h;
+      same = e;
+      long-times = refl;
+      long-freqs = refl;
+    }
+
+pub scanning-ready : {file : List ℕ} {times₀ times : List ℤ} {freqs₀ freqs : List Float} {at n next : ℕ} {s : PassFile} → Scanning file times₀ freqs₀ at s times freqs → LineAt file at n next → Ready file at n s times freqs
+scanning-ready a l = let i = l .inside in let z = l .size in record { room = omega arith; count = a .read .count; same = a .same }
+
+module _ {file : List ℕ} {times₀ times times′ : List ℤ} {freqs₀ freqs freqs′ : List Float} {at n next : ℕ} {s r : PassFile}
+    (a : Scanning file times₀ freqs₀ at s times freqs) (l : LineAt file at n next) (t : Stepped file at n s times times′ freqs freqs′ r) where
+  pub kept-times : length times′ ≡ length times₀
+  kept-times = ap length (t .stored .put-times) ∙ length-sets times (s .count) (timeBefore (lineOf (take n (drop at file))) []) ∙ a .long-times
+
+  pub kept-freqs : length freqs′ ≡ length freqs₀
+  kept-freqs = ap length (t .stored .put-freqs) ∙ length-sets freqs (s .count) (freqBefore (lineOf (take n (drop at file))) []) ∙ a .long-freqs
+
+  -- the next sample's place
+  next-place : r .count ≡ s .count + length (timeBefore (lineOf (take n (drop at file))) [])
+  next-place = ap (λ (p : PassFile). p .count) (t .is) ∙ count-next s at (lineOf (take n (drop at file)))
+
+  pub scanning-more : r .refusal ≡ 0 → Scanning file times₀ freqs₀ (at + next) r times′ freqs′
+  unfolding timesOf freqsOf
+  scanning-more g =
+      let x = lineOf (take n (drop at file)) in
+      let k = s .count in
+      let ts = timesOf (lines (at + next) (drop (at + next) file)) in
+      let fs = freqsOf (lines (at + next) (drop (at + next) file)) in
+      record {
+        read = scan-more (a .read) l t g;
+        left-times = (λ z. sets (t .stored .put-times z) (next-place z) ts) ∙ sym (time-join x times k ts) ∙ ap (λ (ls : List Placed). sets times k (timesOf ls)) (sym (l .is)) ∙ a .left-times;
+        left-freqs = (λ z. sets (t .stored .put-freqs z) (next-place z) fs) ∙ sym (freq-join x freqs k fs) ∙ ap (λ (ls : List Placed). sets freqs k (freqsOf ls)) (sym (l .is)) ∙ a .left-freqs;
+        same = let p = kept-times in let q = kept-freqs in let u = a .same in let v = a .long-times in let w = a .long-freqs in omega arith;
+        long-times = kept-times;
+        long-freqs = kept-freqs;
+      }
+
+  pub scanning-refused : (r .refusal ≡ 0 → ⊥) → Scan file times₀ times′ freqs₀ freqs′ r
+  scanning-refused g = record { says = scan-refused (a .read) l t g; put-times = λ (z : r .refusal ≡ 0). absurd (g z); put-freqs = λ (z : r .refusal ≡ 0). absurd (g z) }
+
+pub scanning-end : {file : List ℕ} {times₀ times : List ℤ} {freqs₀ freqs : List Float} {at : ℕ} {s : PassFile} → Scanning file times₀ freqs₀ at s times freqs → length file ≤ at → Scan file times₀ times freqs₀ freqs s
+unfolding lines timesOf freqsOf
+scanning-end {file = file} {times = times} {freqs = freqs} {at = at} {s = s} a h =
+    record {
+      says = scan-end (a .read) h;
+      put-times = λ _. ap (λ (l : List ℕ). sets times (s .count) (timesOf (lines at l))) (sym (drop-of-length-le file h)) ∙ a .left-times;
+      put-freqs = λ _. ap (λ (l : List ℕ). sets freqs (s .count) (freqsOf (lines at l))) (sym (drop-of-length-le file h)) ∙ a .left-freqs;
+    }
+
+-- ---- as many samples are counted as stored
+pub record Counted (n : ℕ) (ls : List Placed) : Type 0 where
+  pub times : n ≡ length (timesOf ls)
+  pub freqs : n ≡ length (freqsOf ls)
 
 count-times : (p : PassFile) (ls : List Placed) → after p ls .refusal ≡ 0 → after p ls .count ≡ p .count + length (timesOf ls)
 unfolding after timesOf
@@ -251,3 +246,49 @@ counted file {s} h g =
   where
     zero-less : (n : ℕ) → 0 + n ≡ n
     zero-less n = omega arith
+
+-- ---- what was kept apart, copied
+pub record Filled (file : List ℕ) (times times′ : List ℤ) (freqs freqs′ : List Float) : Type 0 where
+  pub put-times : times′ ≡ sets times 0 (timesOf (lines 0 file))
+  pub put-freqs : freqs′ ≡ sets freqs 0 (freqsOf (lines 0 file))
+
+-- the first places hold what was stored there
+module _ {ℓ} {A : Type ℓ} where
+  front : (l vs : List A) → length vs ≤ length l → take (length vs) (sets l 0 vs) ≡ vs
+  front l vs h = ap (take (length vs)) (sets-eq vs l 0 (omega arith)) ∙ take-append-seam vs (drop (0 + length vs) l)
+
+pub copied : (file : List ℕ) {s : PassFile} {kept₀ kept : List ℤ} {keptf₀ keptf : List Float} {times times′ : List ℤ} {freqs freqs′ : List Float}
+    → Scan file kept₀ kept keptf₀ keptf s → s .refusal ≡ 0 → s .count ≤ length kept₀ → s .count ≤ length keptf₀
+    → times′ ≡ sets times 0 (take (s .count) kept) → freqs′ ≡ sets freqs 0 (take (s .count) keptf) → Filled file times times′ freqs freqs′
+copied file {s = s} {kept₀ = k₀} {keptf₀ = f₀} {times = times} {freqs = freqs} h g n m p q =
+    let c = counted file (h .says) g in
+    let ts = timesOf (lines 0 file) in
+    let fs = freqsOf (lines 0 file) in
+    record {
+      put-times = p ∙ ap (sets times 0) ((λ i. take (c .times i) (h .put-times g i)) ∙ front k₀ ts (subst (λ (x : ℕ). x ≤ length k₀) (c .times) n));
+      put-freqs = q ∙ ap (sets freqs 0) ((λ i. take (c .freqs i) (h .put-freqs g i)) ∙ front f₀ fs (subst (λ (x : ℕ). x ≤ length f₀) (c .freqs) m));
+    }
+
+-- ---- a copy: what is left to copy gives the whole
+module _ {ℓ} {A : Type ℓ} where
+  pub record Copying (n : ℕ) (src to₀ to : List A) (i : ℕ) : Type ℓ where
+    pub inside : i ≤ n
+    pub long : length to ≡ length to₀
+    pub left : sets to i (take (n - i) (drop i src)) ≡ sets to₀ 0 (take n src)
+
+  pub copy-start : (n : ℕ) (src to : List A) → Copying n src to to 0
+  copy-start n src to = record { inside = omega arith; long = refl; left = ap (λ (k : ℕ). sets to 0 (take k src)) (sub-zero n) }
+
+  pub copy-more : (n : ℕ) (src to₀ to : List A) (i : ℕ) (d : A) → n ≤ length src → Copying n src to₀ to i → i < n → Copying n src to₀ (set to i (getD src i d)) (i + 1)
+  copy-more n src to₀ to i d h a l =
+      let e : n - i ≡ suc (n - (i + 1)) = omega arith in
+      let f : take (n - i) (drop i src) ≡ getD src i d ∷ take (n - (i + 1)) (drop (i + 1) src) =
+      (λ j. take (e j) (drop-cons src i d (omega arith) j)) ∙ ap (λ (k : ℕ). getD src i d ∷ take (n - (i + 1)) (drop k src)) (sym (add-one i)) in
+      record {
+        inside = omega arith;
+        long = length-set to i (getD src i d) ∙ a .long;
+        left = ap (λ (k : ℕ). sets (set to i (getD src i d)) k (take (n - (i + 1)) (drop (i + 1) src))) (add-one i) ∙ ap (sets to i) (sym f) ∙ a .left;
+      }
+
+  pub copy-end : (n : ℕ) (src to₀ to : List A) (i : ℕ) → Copying n src to₀ to i → n ≤ i → to ≡ sets to₀ 0 (take n src)
+  copy-end n src to₀ to i a h = let e : n - i ≡ 0 = omega arith in ap (λ (k : ℕ). sets to i (take k (drop i src))) (sym e) ∙ a .left

@@ -85,28 +85,27 @@ nameOf file r =
     (cond (ltb (r .«name_end») (r .«name_start»)) [] (take (r .«name_end» - r .«name_start») (drop (r .«name_start») file)))
 
 -- before a line of n bytes at a place
-pub record Ready (file : List ℕ) (at n : ℕ) (s : PassFile) : Type 0 where
+pub record Ready (file : List ℕ) (at n : ℕ) (s : PassFile) (times : List ℤ) (freqs : List Float) : Type 0 where
   pub room : at + n ≤ length file
   pub count : s .count ≤ at
+  pub same : length times ≡ length freqs
 
--- after it
-pub record Stepped (file : List ℕ) (at n : ℕ) (s r : PassFile) : Type 0 where
-  pub is : r ≡ advance s at (lineOf (take n (drop at file)))
-  pub count : r .count ≤ s .count + 1
-
--- the samples of a line stored from place k on
-pub record Stored (x : Line) (k r : ℕ) (times times′ : List ℤ) (freqs freqs′ : List Float) : Type 0 where
-  pub next : r ≡ k + length (timeBefore x [])
+-- the samples of a line stored from place k on; a place past the end takes none
+pub record Stored (x : Line) (k : ℕ) (times times′ : List ℤ) (freqs freqs′ : List Float) : Type 0 where
   pub put-times : times′ ≡ sets times k (timeBefore x [])
   pub put-freqs : freqs′ ≡ sets freqs k (freqBefore x [])
 
-pub record Room (ls : List Placed) (k : ℕ) (times : List ℤ) (freqs : List Float) : Type 0 where
-  pub in-times : k + length (timesOf ls) ≤ length times
-  pub in-freqs : k + length (freqsOf ls) ≤ length freqs
+-- after it
+pub record Stepped (file : List ℕ) (at n : ℕ) (s : PassFile) (times times′ : List ℤ) (freqs freqs′ : List Float) (r : PassFile) : Type 0 where
+  pub is : r ≡ advance s at (lineOf (take n (drop at file)))
+  pub count : r .count ≤ s .count + 1
+  pub stored : Stored (lineOf (take n (drop at file))) (s .count) times times′ freqs freqs′
 
-pub record Filled (file : List ℕ) (times times′ : List ℤ) (freqs freqs′ : List Float) : Type 0 where
-  pub put-times : times′ ≡ sets times 0 (timesOf (lines 0 file))
-  pub put-freqs : freqs′ ≡ sets freqs 0 (freqsOf (lines 0 file))
+-- after the last line, or the first that is refused
+pub record Scan (file : List ℕ) (times times′ : List ℤ) (freqs freqs′ : List Float) (r : PassFile) : Type 0 where
+  pub says : r ≡ scanned file
+  pub put-times : r .refusal ≡ 0 → times′ ≡ sets times 0 (timesOf (lines 0 file))
+  pub put-freqs : r .refusal ≡ 0 → freqs′ ≡ sets freqs 0 (freqsOf (lines 0 file))
 
 -- What `read_pass_file` promises: the answer; and the samples from the first place on, or nothing written where it is refused.
 pub record Reads (file : List ℕ) (times times′ : List ℤ) (freqs freqs′ : List Float) (r : PassFile) : Type 0 where

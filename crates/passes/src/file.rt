@@ -1,9 +1,8 @@
-// A pass file.
+// A pass file. The functions that require something are internal: their callers meet it by proof.
 ghost use mathlib.Core.Path.{_≡_};
-ghost use Prim.Native.Nat.{_+_, _-_, _≤_, _<_};
-ghost use lib.ListN.{length, take, drop};
-ghost use mathlib.Core.List.{[]};
-ghost use Rattle.passes.specs.Text.{lines};
+ghost use Prim.Native.Nat.{_≤_};
+ghost use lib.ListN.{length, take};
+ghost use lib.Seq.{sets};
 ghost use Rattle.passes.specs.File as File;
 use super::line;
 use super::line::Line;
@@ -47,13 +46,40 @@ fn opening() -> PassFile
     }
 }
 
-// One line more.
-fn step(file: &[u8], at: usize, n: usize, s: PassFile) -> PassFile
-    requires { ⌜ File.Ready (now file) at n s ⌝ }
-    ensures { λ r. ⌜ File.Stepped (now (file .entry)) at n s r ⌝ }
+// A line's sample at place k, where there is such a place.
+fn store(x: Line, k: usize, times: &mut [i64], freqs: &mut [f64])
+    requires { ⌜ length (now times) ≡ length (now freqs) ⌝ }
+    ensures { λ _. ⌜ File.Stored x k (now (times .entry)) (now (times .exit)) (now (freqs .entry)) (now (freqs .exit)) ⌝ }
+{
+    match x {
+        Line::Skipped => {}
+        Line::Refusal(_) => {}
+        Line::Name(_, _) => {}
+        Line::Center(_) => {}
+        Line::Sample(t, f) => {
+            if k < times.len() {
+                times[k] = t;
+                freqs[k] = f;
+            }
+        }
+    }
+}
+
+// One line more, and its sample behind those before it.
+fn step(
+    file: &[u8],
+    at: usize,
+    n: usize,
+    s: PassFile,
+    times: &mut [i64],
+    freqs: &mut [f64],
+) -> PassFile
+    requires { ⌜ File.Ready (now file) at n s (now times) (now freqs) ⌝ }
+    ensures { λ r. ⌜ File.Stepped (now (file .entry)) at n s (now (times .entry)) (now (times .exit)) (now (freqs .entry)) (now (freqs .exit)) r ⌝ }
 {
     let e = at + n;
     let x = line::read_line(&file[at..e]);
+    store(x, s.count, times, freqs);
     match x {
         Line::Skipped => s,
         Line::Refusal(k) => PassFile {
@@ -91,9 +117,10 @@ fn step(file: &[u8], at: usize, n: usize, s: PassFile) -> PassFile
     }
 }
 
-// All lines, up to the first that is refused.
-fn scan(file: &[u8]) -> PassFile
-    ensures { λ r. ⌜ r ≡ File.scanned (now (file .entry)) ⌝ }
+// All lines, up to the first that is refused, with as many of their samples as there are places for.
+fn scan(file: &[u8], times: &mut [i64], freqs: &mut [f64]) -> PassFile
+    requires { ⌜ length (now times) ≡ length (now freqs) ⌝ }
+    ensures { λ r. ⌜ File.Scan (now (file .entry)) (now (times .entry)) (now (times .exit)) (now (freqs .entry)) (now (freqs .exit)) r ⌝ }
 {
     let mut s = opening();
     let mut at = 0;
@@ -101,7 +128,7 @@ fn scan(file: &[u8]) -> PassFile
         let c = text::line(&file[at..]);
         let n = c.size;
         let next = c.next;
-        s = step(file, at, n, s);
+        s = step(file, at, n, s, times, freqs);
         if s.refusal != 0 {
             return s;
         }
@@ -110,46 +137,36 @@ fn scan(file: &[u8]) -> PassFile
     s
 }
 
-// A line's sample at place k, and the next place.
-fn store(x: Line, k: usize, times: &mut [i64], freqs: &mut [f64]) -> usize
-    requires { ⌜ (k + length (File.timeBefore x []) ≤ length (now times)) × (k + length (File.freqBefore x []) ≤ length (now freqs)) ⌝ }
-    ensures { λ r. ⌜ File.Stored x k r (now (times .entry)) (now (times .exit)) (now (freqs .entry)) (now (freqs .exit)) ⌝ }
+fn copy_times(from: &[i64], n: usize, to: &mut [i64])
+    requires { ⌜ (n ≤ length (now from)) × (n ≤ length (now to)) ⌝ }
+    ensures { λ _. ⌜ now (to .exit) ≡ sets (now (to .entry)) 0 (take n (now (from .entry))) ⌝ }
 {
-    match x {
-        Line::Skipped => k,
-        Line::Refusal(_) => k,
-        Line::Name(_, _) => k,
-        Line::Center(_) => k,
-        Line::Sample(t, f) => {
-            times[k] = t;
-            freqs[k] = f;
-            k + 1
-        }
+    let mut i = 0;
+    while i < n {
+        to[i] = from[i];
+        i += 1;
     }
 }
 
-// The samples of all lines.
-fn fill(file: &[u8], times: &mut [i64], freqs: &mut [f64])
-    requires { ⌜ File.Room (lines 0 (now file)) 0 (now times) (now freqs) ⌝ }
-    ensures { λ _. ⌜ File.Filled (now (file .entry)) (now (times .entry)) (now (times .exit)) (now (freqs .entry)) (now (freqs .exit)) ⌝ }
+fn copy_freqs(from: &[f64], n: usize, to: &mut [f64])
+    requires { ⌜ (n ≤ length (now from)) × (n ≤ length (now to)) ⌝ }
+    ensures { λ _. ⌜ now (to .exit) ≡ sets (now (to .entry)) 0 (take n (now (from .entry))) ⌝ }
 {
-    let mut at = 0;
-    let mut k = 0;
-    while at < file.len() {
-        let c = text::line(&file[at..]);
-        let n = c.size;
-        let next = c.next;
-        let e = at + n;
-        k = store(line::read_line(&file[at..e]), k, times, freqs);
-        at += next;
+    let mut i = 0;
+    while i < n {
+        to[i] = from[i];
+        i += 1;
     }
 }
 
-// Reads a pass file. Its samples go into `times` (nanoseconds since 1970) and `freqs`.
+// Reads a pass file. Its samples go into `times` (nanoseconds since 1970) and `freqs`: a refusal writes none of them, so they
+// are kept apart until the last line is read.
 pub fn read_pass_file(file: &[u8], times: &mut [i64], freqs: &mut [f64]) -> PassFile
     ensures { λ r. ⌜ File.Reads (now (file .entry)) (now (times .entry)) (now (times .exit)) (now (freqs .entry)) (now (freqs .exit)) r ⌝ }
 {
-    let s = scan(file);
+    let mut kept_times = [0i64; 4096];
+    let mut kept_freqs = [0.0f64; 4096];
+    let s = scan(file, &mut kept_times, &mut kept_freqs);
     let n = s.count;
     let k = s.refusal;
     if k != 0 {
@@ -164,7 +181,8 @@ pub fn read_pass_file(file: &[u8], times: &mut [i64], freqs: &mut [f64]) -> Pass
     if freqs.len() < n {
         return refused(refusal::SHORT_MEMORY);
     }
-    fill(file, times, freqs);
+    copy_times(&kept_times, n, times);
+    copy_freqs(&kept_freqs, n, freqs);
     s
 }
 

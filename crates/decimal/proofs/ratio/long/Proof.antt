@@ -1,17 +1,16 @@
 -- `decimal::ratio::long` meets its contract. Assumes nothing.
-use mathlib.Core.Path.{_≡_, refl, sym, ap, _∙_}
+use mathlib.Core.Path.{_≡_, sym, ap, _∙_}
 use Prim.Native.Nat.{ℕ, _+_, _-_, _*_, _^_, _≤_, _<_, compare}
-use native.Mathlib.Nat.{le-trans, le-of-eq, lt-of-lt-of-le, lt-of-le-of-lt, one-mul, zero-mul, mul-pos}
+use native.Mathlib.Nat.{le-trans, le-of-eq, lt-of-lt-of-le, lt-of-le-of-lt, one-mul, mul-pos}
 use native.Mathlib.Omega.{arith}
-use mathlib.Core.Bool.{Bool, true, false, cond}
+use mathlib.Core.Bool.{Bool, true, cond}
 use lib.Dec.{lit<}
-use lib.IntN.{pos}
-use lib.Ieee.{binary64, round, ofBits, nearest, fin}
+use lib.Ieee.{binary64, round, ofBits, nearest}
 use lib.Ieee.Nearest.{closest}
 use borrow.Author.Needs.{needs}
 use Rattle.decimal.specs.Wide.{val}
 use Rattle.decimal.proofs.Round.{closest-at, ten-pos}
-use Rattle.decimal.proofs.Near.{round-bits, round-zero, closest-le}
+use Rattle.decimal.proofs.Near.{round-bits, closest-le}
 use Rattle.decimal.proofs.Doubling.{tens-small, one-small, scaled-same, scaled-lo, scaled-hi, doubled-pos}
 use Rattle.decimal.proofs.ratio.long.Statement.{statement}
 use Rattle.decimal.proofs.ratio.long.Tie as tie

@@ -1,0 +1,64 @@
+-- `passes::file::copy_times` meets its contract. Assumes nothing.
+use mir.Syntax.{w64}
+use mir.ValLaws.{toZ-ofZ}
+use lib.IntN.{pos}
+use lib.ListN.{getD}
+use native.Mathlib.Omega.{arith}
+use Prim.Native.Nat.{_-_}
+use Rattle.passes.proofs.Files.{Copying, copy-start, copy-more, copy-end}
+use borrow.Author.Needs.{needs}
+use Rattle.passes.proofs.file.copy_times.Statement.{statement}
+use Rattle.passes.proofs.file.copy_times.Tie as tie
+
+abbrev Inv-loop : tie.InvT-loop
+Inv-loop from n to₀ i₀ to i = Copying n from to₀ to i
+
+abbrev μ-loop : tie.MeasureT-loop
+μ-loop from n to₀ i₀ to i = n - i
+
+loop-holds : tie.Need-loop-holds Inv-loop μ-loop
+loop-holds c = copy-start _ _ _
+
+mul-to : tie.Need-mul-to Inv-loop μ-loop
+mul-to c = search needs
+
+shared-slice-copy-out-to : tie.Need-shared-slice-copy-out-to Inv-loop μ-loop
+shared-slice-copy-out-to c = search needs
+
+mul-t9 : tie.Need-mul-t9 Inv-loop μ-loop
+mul-t9 c = search needs
+
+slice-set-from-to : tie.Need-slice-set-from-to Inv-loop μ-loop
+slice-set-from-to c = search needs
+
+add-i : tie.Need-add-i Inv-loop μ-loop
+add-i c = search needs
+
+loop-less : tie.Need-loop-less Inv-loop μ-loop
+loop-less c = omega arith
+
+loop-again : tie.Need-loop-again Inv-loop μ-loop
+loop-again c = let l = c .before .before in rw (toZ-ofZ w64 (getD (l .before .args .from .now) (l .loop .i) (pos 0)) (record { sfits = c .to .given })) (copy-more _ _ _ _ _ _ (l .before .pre .0) (l .loop .inv) (c .before .loop-test .taken))
+
+same-length : tie.Need-same-length Inv-loop μ-loop
+same-length c = c .before .loop .inv .long
+
+returns : tie.Need-returns Inv-loop μ-loop
+returns c = copy-end _ _ _ _ _ (c .before .loop .inv) (c .loop-test .left)
+
+pub copy-times-spec : {M : Type 1} → statement M
+copy-times-spec =
+    tie.close
+    (tie.spec
+    Inv-loop
+    μ-loop
+    loop-holds
+    mul-to
+    shared-slice-copy-out-to
+    mul-t9
+    slice-set-from-to
+    add-i
+    loop-less
+    loop-again
+    same-length
+    returns)
