@@ -5,3 +5,4 @@ pub mod Names
 pub mod Files
 pub mod Answers
 pub mod Examples
+pub mod Calling

@@ -39,7 +39,7 @@ pub record Within (n : ℕ) (x : Line) : Type 0 where
 
 -- ---- lengths
 
-blanks-most : (l : List ℕ) → blanks l ≤ length l
+pub blanks-most : (l : List ℕ) → blanks l ≤ length l
 unfolding blanks
 blanks-most [] = omega arith
 blanks-most (c ∷ l) = go (blank c) (blanks-most l)
@@ -48,7 +48,7 @@ blanks-most (c ∷ l) = go (blank c) (blanks-most l)
     go true h = omega arith
     go false h = omega arith
 
-end-most : (l : List ℕ) → length (trimEnd l) ≤ length l
+pub end-most : (l : List ℕ) → length (trimEnd l) ≤ length l
 unfolding trimEnd keep
 end-most [] = omega arith
 end-most (c ∷ l) = go (trimEnd l) (end-most l)
@@ -65,7 +65,7 @@ trim-most : (l : List ℕ) → blanks l + length (trim l) ≤ length l
 unfolding trim
 trim-most l = omega (arith, blanks-most l, end-most (drop (blanks l) l), length-drop (blanks l) l)
 
-until-most : (b : ℕ) (l : List ℕ) → until b l ≤ length l
+pub until-most : (b : ℕ) (l : List ℕ) → until b l ≤ length l
 unfolding until
 until-most b [] = omega arith
 until-most b (c ∷ l) = go (eqb c b) (until-most b l)
