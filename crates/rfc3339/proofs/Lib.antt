@@ -1,2 +1,3 @@
 pub mod Stamps
 pub mod Examples
+pub mod Grammar
