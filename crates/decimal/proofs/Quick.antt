@@ -9,8 +9,9 @@ use lib.Count.{leadingZeros, leading-of-zero, leading-top}
 use lib.Pow.{pow-add, pow-pos}
 use lib.Ieee.{binary64, round, nearest}
 use lib.Ieee.Nearest.{closest}
+use lib.Ieee.Scale.{round-same}
 use Rattle.decimal.specs.Ratio.{Pattern}
-use Rattle.decimal.proofs.Round.{closest-at}
+use Rattle.decimal.proofs.Round.{closest-at, ten-pos}
 use Rattle.decimal.proofs.Near.{round-bits, closest-le}
 
 -- ---- d * p / b, by the whole part of d / b and the rest
@@ -97,3 +98,12 @@ module _ (d b z : ℕ) (D : d < 2 ^ 64) (B : 0 < b) (e : z ≡ leadingZeros 64 (
     where
       one-times : d * 10 ^ 0 ≡ d
       one-times = mul-one d
+
+-- zeros that `up` brings and `down` takes
+pub lifted : (d up down r : ℕ) → up ≤ down → Pattern d 0 (down - up) r → Pattern d up down r
+lifted d up down r h p = record { small = p .small; is = λ s. round-same binary64 s (d * 10 ^ up) (10 ^ down) (d * 10 ^ 0) (10 ^ (down - up)) (ten-pos down) (ten-pos (down - up)) cross ∙ p .is s }
+  where
+    cross : d * 10 ^ up * 10 ^ (down - up) ≡ d * 10 ^ 0 * 10 ^ down
+    cross =
+        let e : up + (down - up) ≡ down = omega arith in
+        mul-assoc d (10 ^ up) (10 ^ (down - up)) ∙ ap (λ (x : ℕ). d * x) (sym (pow-add 10 up (down - up)) ∙ ap (λ (x : ℕ). 10 ^ x) e) ∙ ap (λ (x : ℕ). x * 10 ^ down) (sym (mul-one d))

@@ -9,7 +9,7 @@ use lib.Ieee.Nearest.{closest}
 use Rattle.decimal.specs.Ratio.{Pattern}
 use Rattle.decimal.proofs.Round.{ten-pos}
 use Rattle.decimal.proofs.Parts.{one-shl}
-use Rattle.decimal.proofs.Quick.{under-whole, made}
+use Rattle.decimal.proofs.Quick.{under-whole, made, lifted}
 use borrow.Author.Needs.{needs}
 use Rattle.decimal.proofs.ratio.quick.Statement.{statement}
 use Rattle.decimal.proofs.ratio.quick.Tie as tie
@@ -77,15 +77,12 @@ moved-requires c κs =
       rw (shift e) (under-whole (dividend e) (divisor e) (zeros e) (e .before .before .before .before .before .fits .d .fits) (positive (e .before .before)) refl (e .before .if3 .left) (upper e)),
     )
 
-done : (c : tie.After-moved) → Pattern (dividend (c .before .before)) 0 (c .before .before .before .before .before .before .before .args .down) ((1074 - (zeros (c .before .before) - 11)) * 2 ^ 52 + c .moved .result)
+done : (c : tie.After-moved) → Pattern (dividend (c .before .before)) 0 (c .before .before .before .before .before .before .before .args .down - c .before .before .before .before .before .before .before .args .up) ((1074 - (zeros (c .before .before) - 11)) * 2 ^ 52 + c .moved .result)
 done c =
     let e = c .before .before in
     let s = e .before .before .before .before .before in
-    subst (λ (q : ℕ). Pattern (dividend e) 0 (s .args .down) ((1074 - (zeros e - 11)) * 2 ^ 52 + q)) (sym (c .moved .ensures ∙ ap (λ (p : ℕ). closest (dividend e * p) (divisor e)) (shift e)))
-    (made (dividend e) (divisor e) (zeros e) (s .fits .d .fits) (positive (e .before .before)) refl (e .before .if3 .left) (upper e) (s .args .down) (e .before .before .power .ensures))
-
-none : (u : ℕ) → u ≤ 0 → 0 ≡ u
-none u h = omega arith
+    subst (λ (q : ℕ). Pattern (dividend e) 0 (s .args .down - s .args .up) ((1074 - (zeros e - 11)) * 2 ^ 52 + q)) (sym (c .moved .ensures ∙ ap (λ (p : ℕ). closest (dividend e * p) (divisor e)) (shift e)))
+    (made (dividend e) (divisor e) (zeros e) (s .fits .d .fits) (positive (e .before .before)) refl (e .before .if3 .left) (upper e) (s .args .down - s .args .up) (e .before .before .power .ensures))
 
 add-result : tie.Need-add-result
 add-result c = omega (arith, done c .small)
@@ -94,7 +91,7 @@ returns-6 : tie.Need-returns-6
 returns-6 c = λ _.
     let e = c .before .before in
     let s = e .before .before .before .before .before in
-    subst (λ (u : ℕ). Pattern (dividend e) u (s .args .down) ((1074 - (zeros e - 11)) * 2 ^ 52 + c .moved .result)) (none (s .args .up) (e .before .before .before .before .if1 .left)) (done c)
+    lifted (dividend e) (s .args .up) (s .args .down) _ (e .before .before .before .before .if1 .left) (done c)
 
 pub quick-spec : {M : Type 1} → statement M
 quick-spec =
