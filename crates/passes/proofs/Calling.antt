@@ -7,6 +7,8 @@ use Prim.Native.Nat.{ℕ, zero, suc, _+_, _-_, _≤_}
 use native.Mathlib.Nat.{sub-zero, zero-add}
 use native.Mathlib.Omega.{arith}
 use lib.Dec.{ltb, eqb}
+use lib.IntN.{ℤ}
+use lib.Ieee.{Float}
 use lib.ListN.{length, take, drop, length-drop}
 use lib.Seq.{take-nil, take-take, drop-drop, length-take-le, take-all}
 use borrow.Author.Tests.{ne-eqb, eqb-false, le-ltb}
@@ -19,7 +21,7 @@ use Rattle.rfc3339.specs.declared.Timestamp.the-variants as Time
 use Rattle.passes.specs.Text.{Placed, push, startsLf, lines, blank, blanks, keep, trimEnd, trim, until, ascii}
 use Rattle.refusal.specs.Numbers as refusal
 use Rattle.passes.specs.Line.{inside, since1970, sampleOf, pairOf, fields, sample, centerOf, named, header, text, lineOf}
-use Rattle.passes.specs.File.{opening, zeros, advance, after, scanned, refusalOf, answer, nameOf}
+use Rattle.passes.specs.File.{opening, zeros, advance, after, scanned, refusalOf, answer, nameOf, Reads}
 use Rattle.passes.specs.Called.{valueOf, headed, calledIn, later, lastCalled, partOf}
 use Rattle.passes.specs.declared.line.Line.{Line}
 use Rattle.passes.specs.declared.line.Line.the-variants.{Skipped, Refusal, Name, Center, Sample}
@@ -272,3 +274,8 @@ module _ (file : List ℕ) where
       go : (k : ℕ) (b : Bool) → eqb k 0 ≡ b → cond b (scanned file) (zeros k) .refusal ≡ 0 → partOf file (cond b (scanned file) (zeros k)) ≡ lastCalled none (lines 0 file)
       go k true h f = scanned-name f
       go k false h f = absurd (eqb-false k 0 h f)
+
+-- so for what `read_pass_file` promises
+pub name-read : {file : List ℕ} {times times′ : List ℤ} {freqs freqs′ : List Float} {r : PassFile} → Reads file times times′ freqs freqs′ r → r .refusal ≡ 0 → partOf file r ≡ lastCalled none (lines 0 file)
+name-read {file = file} {times = times} {freqs = freqs} h e =
+    ap (partOf file) (h .says) ∙ name-part file (length times) (length freqs) (sym (ap (λ (p : PassFile). p .refusal) (h .says)) ∙ e)
