@@ -1,4 +1,5 @@
-//! bench [ROUNDS]: the port against the published and the patched original, one thread, the same inputs.
+//! bench [ROUNDS [NAME]]: the port against the published and the patched original, one thread, the same inputs; with NAME only the
+//! functions in whose name it stands.
 //!
 //! A round times every copy on all inputs, in turning order, by the thread's processor time, so that other programs on
 //! the machine count little. A copy's time is the median over the rounds; a ratio is taken within a round, and given as
@@ -36,6 +37,9 @@ fn sorted(v: impl Iterator<Item = f64>) -> Vec<f64> {
 
 /// `calls` calls a run; copies are port, patched, published.
 fn bench(name: &str, rounds: usize, calls: usize, runs: [Run; 3]) {
+    if std::env::args().nth(2).is_some_and(|part| !name.contains(&part)) {
+        return;
+    }
     let mut times = [vec![], vec![], vec![]];
     for round in 0..rounds + 2 {
         for k in 0..3 {
@@ -110,6 +114,18 @@ fn main() {
         floats(&angles, |v| unsafe { port::wisvalom_cos(v) }),
         floats(&angles, |v| patched::judge::floats::cos(v)),
         floats(&angles, |v| published::judge::floats::cos(v)),
+    ]);
+
+    let within: Vec<f64> = (0..n).map(|_| r.between(-6.28, 6.28)).collect();
+    bench("`sin` within a turn", rounds, n, [
+        floats(&within, |v| unsafe { port::wisvalom_sin(v) }),
+        floats(&within, |v| patched::judge::floats::sin(v)),
+        floats(&within, |v| published::judge::floats::sin(v)),
+    ]);
+    bench("`cos` within a turn", rounds, n, [
+        floats(&within, |v| unsafe { port::wisvalom_cos(v) }),
+        floats(&within, |v| patched::judge::floats::cos(v)),
+        floats(&within, |v| published::judge::floats::cos(v)),
     ]);
 
     let samples: Vec<Sample> = (0..n)
