@@ -22,8 +22,32 @@ double wisvalom_cbrt(double x);
 double wisvalom_sin(double v);
 double wisvalom_cos(double v);
 
+/* The rest of document 01's arithmetic: a whole power by repeated products, casts that cut, saturate and make NaN 0, and the
+ * product modulo 2^64. */
+double wisvalom_abs(double v);
+double wisvalom_max(double v, double w);
+double wisvalom_min(double v, double w);
+double wisvalom_floor(double v);
+double wisvalom_round(double v);
+double wisvalom_signum(double v);
+double wisvalom_rem_euclid(double v, double d);
+double wisvalom_to_degrees(double v);
+double wisvalom_to_radians(double v);
+double wisvalom_power(double v, uint64_t n);
+double wisvalom_ln(double v);
+uint64_t wisvalom_to_u64(double v);
+int64_t wisvalom_to_i64(double v);
+uint64_t wisvalom_wrapping_mul(uint64_t a, uint64_t b);
+
+/* A draw from the generator, uniform or normal; the state after it goes to *next. */
+double wisvalom_next_f64(uint64_t state, uint64_t *next);
+double wisvalom_next_gaussian(uint64_t state, uint64_t *next);
+
 /* The Julian date. Refuses: 4. */
 uint32_t wisvalom_datetime_to_jd(int64_t seconds, uint32_t nanos, double *out);
+
+/* From the inertial to the Earth-fixed frame: position out[0..2], velocity out[3..5]. */
+void wisvalom_teme_to_ecef(double jd, double x, double y, double z, double vx, double vy, double vz, double out[6]);
 
 /* Position and velocity on a circular orbit, Earth-fixed: out[0..2] and out[3..5]. Refuses: 4. */
 uint32_t wisvalom_propagate_ecef_at_time(double a, double i, double raan0, double u0, int64_t epoch, uint32_t epoch_nanos,
@@ -50,6 +74,43 @@ void wisvalom_map_to_normalized_search_space(const double coord[3], double out[1
  * samples, the name's start and end in the file, and 1 if a name was seen, else 0. Refuses: 1 to 5, 21. */
 uint32_t wisvalom_read_pass_file(const uint8_t *file, size_t n, int64_t *times, size_t n_times, double *freqs, size_t n_freqs,
                                  size_t numbers[4], double *center_freq);
+
+/* A pass set is four arrays: each pass's number of samples, all times (nanoseconds since 1970), all frequencies, each pass's centre.
+ * The closest moment of each pass; a sum of squares; its differences by a, i, raan0 and u0. Refuse: 4, 5; the moments also 21. */
+uint32_t wisvalom_get_pred_pca_times(double a, double i, double raan, double u0, int64_t epoch, uint32_t epoch_nanos, double x,
+                                     double y, double z, const uint32_t *counts, size_t passes, const int64_t *times,
+                                     size_t samples, const double *freqs, size_t frequencies, const double *centers,
+                                     size_t centres, int64_t *out, size_t room);
+uint32_t wisvalom_compute_rss(const uint32_t *counts, size_t passes, const int64_t *times, size_t samples, const double *freqs,
+                              size_t frequencies, const double *centers, size_t centres, double x, double y, double z, double a,
+                              double i, int64_t epoch, uint32_t epoch_nanos, double center_freq, double raan0, double u0,
+                              double *out);
+uint32_t wisvalom_compute_gradient(const uint32_t *counts, size_t passes, const int64_t *times, size_t samples,
+                                   const double *freqs, size_t frequencies, const double *centers, size_t centres, double x,
+                                   double y, double z, double a, double i, int64_t epoch, uint32_t epoch_nanos,
+                                   double center_freq, double raan0, double u0, double out[4]);
+
+/* The best of 144 starts on a set without empty passes: raan0, u0 and their sum. The table, of 48,032 numbers or more, is written
+ * over. Refuses: 4, 5, 9 (no pass), 10 (no sample), 21. */
+uint32_t wisvalom_search_starts(const uint32_t *counts, size_t passes, const int64_t *times, size_t samples, const double *freqs,
+                                size_t frequencies, const double *centers, size_t centres, double x, double y, double z, double a,
+                                double i, double *table, size_t table_room, double out[3]);
+
+/* Solves a system of n rows, the matrix row by row; scratch has n*(n + 1) numbers or more. Refuses: 5, 12, 21, 22. */
+uint32_t wisvalom_solve_linear_system(const double *matrix, size_t cells, const double *vector, size_t rows, size_t n, double *out,
+                                      size_t room, double *scratch, size_t scratch_room);
+
+/* A stored pass set, from bytes and to bytes. Refuse: 5, 4, 21; 4, 5, 21. What is counted, *passes, *samples and *size, is 0 after
+ * a refusal. */
+uint32_t wisvalom_load(const uint8_t *bytes, size_t n, uint32_t *counts, size_t counts_room, int64_t *times, size_t times_room,
+                       double *freqs, size_t freqs_room, size_t *passes, size_t *samples);
+uint32_t wisvalom_store(const uint32_t *counts, size_t passes, const int64_t *times, size_t samples, const double *freqs,
+                        size_t frequencies, uint8_t *out, size_t room, size_t *size);
+
+/* The checksum of a line's first 68 columns; the name line and the two element lines. Refuses: 4, 11, 21; *length is then 0. */
+uint32_t wisvalom_tle_checksum(const uint8_t *line, size_t n);
+uint32_t wisvalom_format_tle_catalog(const uint8_t *name, size_t n, double a, double i, double raan0, double u0, int64_t epoch,
+                                     uint32_t epoch_nanos, uint8_t *out, size_t room, size_t *length);
 
 #ifdef __cplusplus
 }

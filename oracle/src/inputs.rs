@@ -11,7 +11,7 @@ pub const KINDS: &[&str] = &[
     "max", "min", "rem_euclid", "to_u64", "to_i64", "wrapping_mul", "draw", "gaussian", "monna", "unmonna", "padic",
     "history", "normal", "jd", "teme", "wgs84", "prop", "pred", "poly", "pca", "rss", "grad", "solve", "search",
     "residuals1", "residuals2", "step1", "step2", "fit", "lines", "checksum", "file",
-    "load", "determine",
+    "load", "store", "determine",
 ];
 
 /// Whether an answer of the kind begins with a refusal.
@@ -161,6 +161,7 @@ pub fn fields(kind: &str, seed: u64, k: u64) -> Vec<u64> {
             let seed = r.word();
             l.bytes(&files::stored(seed, &cases::set(r).set))
         }
+        "store" => l.set(&cases::set(r).set),
         _ => l.float(r.float()),
     };
     words(&l.0).unwrap()

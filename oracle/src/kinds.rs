@@ -99,6 +99,7 @@ pub fn answered(kind: &str, fields: &[u64]) -> Option<Line> {
             let counts: Vec<i64> = s.counts.iter().map(|&n| n as i64).collect();
             l.ints(&counts).ints(&s.times).list(&s.freqs)
         }),
+        "store" => l.refused_or(&judge::store(&f.set()?), |l, b| l.bytes(b)),
         _ => l.float(judge::floats::one(kind, f.float()?)?),
     };
     given.done().then_some(l)

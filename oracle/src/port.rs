@@ -6,8 +6,10 @@ use common::{Moment, Set};
 pub use patched::judge::{Answer, File, Fit, State};
 
 pub const KINDS: &[&str] = &[
-    "sqrt", "cbrt", "sin", "cos", "jd", "prop", "pred", "poly", "monna", "unmonna", "padic", "history", "normal",
-    "file",
+    "sqrt", "cbrt", "sin", "cos", "ln", "abs", "floor", "round", "signum", "to_degrees", "to_radians", "powi2", "powi3",
+    "max", "min", "rem_euclid", "to_u64", "to_i64", "wrapping_mul", "draw", "gaussian", "monna", "unmonna", "padic",
+    "history", "normal", "jd", "teme", "prop", "pred", "poly", "pca", "rss", "grad", "solve", "lines", "checksum", "file", "load",
+    "store",
 ];
 
 #[link(name = "exports", kind = "static")]
@@ -43,6 +45,63 @@ unsafe extern "C" {
     pub fn wisvalom_read_pass_file(
         file: *const u8, n: usize, times: *mut i64, n_times: usize, freqs: *mut f64, n_freqs: usize, numbers: *mut [usize; 4], center_freq: *mut f64,
     ) -> u32;
+    pub fn wisvalom_abs(v: f64) -> f64;
+    pub fn wisvalom_max(v: f64, w: f64) -> f64;
+    pub fn wisvalom_min(v: f64, w: f64) -> f64;
+    pub fn wisvalom_floor(v: f64) -> f64;
+    pub fn wisvalom_round(v: f64) -> f64;
+    pub fn wisvalom_signum(v: f64) -> f64;
+    pub fn wisvalom_rem_euclid(v: f64, d: f64) -> f64;
+    pub fn wisvalom_to_degrees(v: f64) -> f64;
+    pub fn wisvalom_to_radians(v: f64) -> f64;
+    pub fn wisvalom_power(v: f64, n: u64) -> f64;
+    pub fn wisvalom_ln(v: f64) -> f64;
+    pub fn wisvalom_to_u64(v: f64) -> u64;
+    pub fn wisvalom_to_i64(v: f64) -> i64;
+    pub fn wisvalom_wrapping_mul(a: u64, b: u64) -> u64;
+    pub fn wisvalom_next_f64(state: u64, next: *mut u64) -> f64;
+    pub fn wisvalom_next_gaussian(state: u64, next: *mut u64) -> f64;
+    pub fn wisvalom_teme_to_ecef(jd: f64, x: f64, y: f64, z: f64, vx: f64, vy: f64, vz: f64, out: *mut f64);
+    pub fn wisvalom_get_pred_pca_times(
+        a: f64, i: f64, raan: f64, u0: f64, epoch: i64, epoch_nanos: u32, x: f64, y: f64, z: f64,
+        counts: *const u32, passes: usize, times: *const i64, samples: usize,
+        freqs: *const f64, frequencies: usize, centers: *const f64, centres: usize,
+        out: *mut i64, room: usize,
+    ) -> u32;
+    pub fn wisvalom_compute_rss(
+        counts: *const u32, passes: usize, times: *const i64, samples: usize,
+        freqs: *const f64, frequencies: usize, centers: *const f64, centres: usize,
+        x: f64, y: f64, z: f64, a: f64, i: f64, epoch: i64, epoch_nanos: u32, center_freq: f64, raan0: f64, u0: f64,
+        out: *mut f64,
+    ) -> u32;
+    pub fn wisvalom_compute_gradient(
+        counts: *const u32, passes: usize, times: *const i64, samples: usize,
+        freqs: *const f64, frequencies: usize, centers: *const f64, centres: usize,
+        x: f64, y: f64, z: f64, a: f64, i: f64, epoch: i64, epoch_nanos: u32, center_freq: f64, raan0: f64, u0: f64,
+        out: *mut f64,
+    ) -> u32;
+    pub fn wisvalom_search_starts(
+        counts: *const u32, passes: usize, times: *const i64, samples: usize,
+        freqs: *const f64, frequencies: usize, centers: *const f64, centres: usize,
+        x: f64, y: f64, z: f64, a: f64, i: f64, table: *mut f64, room: usize, out: *mut f64,
+    ) -> u32;
+    pub fn wisvalom_solve_linear_system(
+        matrix: *const f64, cells: usize, vector: *const f64, rows: usize, n: usize,
+        out: *mut f64, room: usize, scratch: *mut f64, places: usize,
+    ) -> u32;
+    pub fn wisvalom_load(
+        b: *const u8, n: usize, counts: *mut u32, passes_room: usize, times: *mut i64, times_room: usize,
+        freqs: *mut f64, freqs_room: usize, passes: *mut usize, samples: *mut usize,
+    ) -> u32;
+    pub fn wisvalom_store(
+        counts: *const u32, passes: usize, times: *const i64, samples: usize, freqs: *const f64, frequencies: usize,
+        out: *mut u8, room: usize, size: *mut usize,
+    ) -> u32;
+    pub fn wisvalom_tle_checksum(line: *const u8, n: usize) -> u32;
+    pub fn wisvalom_format_tle_catalog(
+        name: *const u8, n: usize, a: f64, i: f64, raan0: f64, u0: f64, epoch: i64, epoch_nanos: u32,
+        out: *mut u8, room: usize, length: *mut usize,
+    ) -> u32;
 }
 
 /// Memory lent to a call: `n` places between guards, all filled with a pattern.
@@ -72,11 +131,15 @@ impl<T: Copy + PartialEq + std::fmt::Debug> Lent<T> {
         }
         self.places()[..written].to_vec()
     }
+    /// The guards are as they were.
+    pub fn guarded(&self) {
+        let (low, high) = (&self.room[..GUARD], &self.room[self.room.len() - GUARD..]);
+        assert!(low.iter().chain(high).all(|x| *x == self.pattern), "a guard was written");
+    }
     /// All places hold v (scratch after a call that worked), and the guards are as they were.
     pub fn all(&self, v: T) {
         assert!(self.places().iter().all(|x| *x == v), "scratch is not cleared");
-        let (low, high) = (&self.room[..GUARD], &self.room[self.room.len() - GUARD..]);
-        assert!(low.iter().chain(high).all(|x| *x == self.pattern), "a guard was written");
+        self.guarded();
     }
 }
 
@@ -92,28 +155,46 @@ pub fn lent(n: usize, call: impl FnOnce(*mut f64) -> u32) -> Answer<Vec<f64>> {
 }
 
 pub mod floats {
+    use super::*;
+
     pub fn one(name: &str, v: f64) -> Option<f64> {
         unsafe {
             Some(match name {
-                "sqrt" => super::wisvalom_sqrt(v),
-                "cbrt" => super::wisvalom_cbrt(v),
-                "sin" => super::wisvalom_sin(v),
-                "cos" => super::wisvalom_cos(v),
+                "sqrt" => wisvalom_sqrt(v),
+                "cbrt" => wisvalom_cbrt(v),
+                "sin" => wisvalom_sin(v),
+                "cos" => wisvalom_cos(v),
+                "ln" => wisvalom_ln(v),
+                "abs" => wisvalom_abs(v),
+                "floor" => wisvalom_floor(v),
+                "round" => wisvalom_round(v),
+                "signum" => wisvalom_signum(v),
+                "to_degrees" => wisvalom_to_degrees(v),
+                "to_radians" => wisvalom_to_radians(v),
+                "powi2" => wisvalom_power(v, 2),
+                "powi3" => wisvalom_power(v, 3),
                 _ => return None,
             })
         }
     }
-    pub fn two(_name: &str, _v: f64, _w: f64) -> Option<f64> {
-        None
+    pub fn two(name: &str, v: f64, w: f64) -> Option<f64> {
+        unsafe {
+            Some(match name {
+                "max" => wisvalom_max(v, w),
+                "min" => wisvalom_min(v, w),
+                "rem_euclid" => wisvalom_rem_euclid(v, w),
+                _ => return None,
+            })
+        }
     }
-    pub fn to_u64(_: f64) -> Option<u64> {
-        None
+    pub fn to_u64(v: f64) -> Option<u64> {
+        Some(unsafe { wisvalom_to_u64(v) })
     }
-    pub fn to_i64(_: f64) -> Option<i64> {
-        None
+    pub fn to_i64(v: f64) -> Option<i64> {
+        Some(unsafe { wisvalom_to_i64(v) })
     }
-    pub fn wrapping_mul(_: u64, _: u64) -> Option<u64> {
-        None
+    pub fn wrapping_mul(a: u64, b: u64) -> Option<u64> {
+        Some(unsafe { wisvalom_wrapping_mul(a, b) })
     }
 }
 
@@ -185,55 +266,243 @@ pub fn normal(v: [f64; 3]) -> Vec<f64> {
     .unwrap()
 }
 
-// Not exported yet.
-pub fn draw(_: u64) -> (u64, f64) {
-    unimplemented!()
+fn drawn(call: impl FnOnce(*mut u64) -> f64) -> (u64, f64) {
+    let mut next = Lent::new(1, 0x5a5a5a5a5a5a5a5au64);
+    let x = call(next.start());
+    (next.written(1)[0], x)
 }
-pub fn gaussian(_: u64) -> (u64, f64) {
-    unimplemented!()
+
+pub fn draw(state: u64) -> (u64, f64) {
+    drawn(|next| unsafe { wisvalom_next_f64(state, next) })
 }
-pub fn pca(_: [f64; 4], _: Moment, _: [f64; 3], _: &Set) -> Answer<Vec<i64>> {
-    unimplemented!()
+
+pub fn gaussian(state: u64) -> (u64, f64) {
+    drawn(|next| unsafe { wisvalom_next_gaussian(state, next) })
 }
-pub fn rss(_: &Set, _: [f64; 3], _: [f64; 4], _: Moment, _: f64) -> Answer<f64> {
-    unimplemented!()
+
+pub fn teme(jd: f64, s: [f64; 6]) -> [f64; 6] {
+    lent(6, |out| unsafe {
+        wisvalom_teme_to_ecef(jd, s[0], s[1], s[2], s[3], s[4], s[5], out);
+        0
+    })
+    .unwrap()
+    .try_into()
+    .unwrap()
 }
-pub fn grad(_: &Set, _: [f64; 3], _: [f64; 4], _: Moment, _: f64) -> Answer<[f64; 4]> {
-    unimplemented!()
+
+/// Some places more than a call needs, by the size of what it is given, so that both are tried.
+fn spare(n: usize) -> usize {
+    n % 3
 }
-pub fn solve(_: u64, _: &[f64], _: &[f64]) -> Answer<Vec<f64>> {
-    unimplemented!()
+
+/// A call that took what it was given must answer 21, and write nothing, where it is lent one place less than it needs.
+fn short<T: Copy + PartialEq + std::fmt::Debug>(needed: usize, pattern: T, call: impl FnOnce(*mut T, usize) -> u32) {
+    if needed > 0 {
+        let mut out = Lent::new(needed - 1, pattern);
+        let refusal = call(out.start(), needed - 1);
+        assert!(refusal == 21, "{} places of {needed}: refusal {refusal}", needed - 1);
+        out.written(0);
+    }
 }
-pub fn search(_: &Set, _: [f64; 3], _: f64, _: f64) -> Answer<[f64; 3]> {
-    unimplemented!()
-}
-pub fn lines(_: &[u8], _: [f64; 4], _: Moment) -> Answer<Vec<u8>> {
-    unimplemented!()
-}
-pub fn checksum(_: &str) -> u32 {
-    unimplemented!()
-}
-pub fn file(bytes: &[u8]) -> Answer<File> {
-    let room = 4096;
-    let (mut times, mut freqs) = (Lent::new(room, i64::MIN), Lent::new(room, PATTERN));
-    let (mut numbers, mut center) = ([usize::MAX; 4], PATTERN);
-    let refusal = unsafe {
-        wisvalom_read_pass_file(
-            bytes.as_ptr(), bytes.len(), times.start(), room, freqs.start(), room, &mut numbers, &mut center,
+
+const TIME: i64 = 0x5a5a5a5a5a5a5a5a;
+
+pub fn pca(e: [f64; 4], epoch: Moment, rec: [f64; 3], s: &Set) -> Answer<Vec<i64>> {
+    let call = |out: *mut i64, room: usize| unsafe {
+        wisvalom_get_pred_pca_times(
+            e[0], e[1], e[2], e[3], epoch.seconds, epoch.nanos, rec[0], rec[1], rec[2], s.counts.as_ptr(), s.counts.len(),
+            s.times.as_ptr(), s.times.len(), s.freqs.as_ptr(), s.freqs.len(), s.centers.as_ptr(), s.centers.len(), out, room,
         )
     };
+    let n = s.counts.len();
+    let room = n + spare(s.times.len());
+    let mut out = Lent::new(room, TIME);
+    let refusal = call(out.start(), room);
+    let got = out.written(if refusal == 0 { n } else { 0 });
     if refusal != 0 {
-        assert!(numbers == [usize::MAX; 4] && center == PATTERN, "a refusal wrote");
-        times.written(0);
-        freqs.written(0);
         return Err(refusal);
     }
-    let [count, start, end, seen] = numbers;
-    Ok(File { seen: seen == 1, name: bytes[start..end].to_vec(), center, times: times.written(count), freqs: freqs.written(count) })
+    short(n, TIME, call);
+    Ok(got)
 }
-pub fn teme(_: f64, _: [f64; 6]) -> [f64; 6] {
-    unimplemented!()
+
+pub fn rss(s: &Set, rec: [f64; 3], e: [f64; 4], epoch: Moment, center: f64) -> Answer<f64> {
+    lent(1, |out| unsafe {
+        wisvalom_compute_rss(
+            s.counts.as_ptr(), s.counts.len(), s.times.as_ptr(), s.times.len(), s.freqs.as_ptr(), s.freqs.len(), s.centers.as_ptr(),
+            s.centers.len(), rec[0], rec[1], rec[2], e[0], e[1], epoch.seconds, epoch.nanos, center, e[2], e[3], out,
+        )
+    })
+    .map(|v| v[0])
 }
+
+pub fn grad(s: &Set, rec: [f64; 3], e: [f64; 4], epoch: Moment, center: f64) -> Answer<[f64; 4]> {
+    lent(4, |out| unsafe {
+        wisvalom_compute_gradient(
+            s.counts.as_ptr(), s.counts.len(), s.times.as_ptr(), s.times.len(), s.freqs.as_ptr(), s.freqs.len(), s.centers.as_ptr(),
+            s.centers.len(), rec[0], rec[1], rec[2], e[0], e[1], epoch.seconds, epoch.nanos, center, e[2], e[3], out,
+        )
+    })
+    .map(|v| v.try_into().unwrap())
+}
+
+/// The passes that a refinement or the search takes: the non-empty ones, or the first two of them, as a set of its own.
+fn working(s: &Set, most: usize) -> Set {
+    let kept: Vec<usize> = (0..s.counts.len()).filter(|&p| s.counts[p] > 0).take(most).collect();
+    let samples = kept.iter().map(|&p| s.counts[p] as usize).sum();
+    Set {
+        counts: kept.iter().map(|&p| s.counts[p]).collect(),
+        centers: kept.iter().map(|&p| s.centers[p]).collect(),
+        times: s.times[..samples].to_vec(),
+        freqs: s.freqs[..samples].to_vec(),
+    }
+}
+
+/// The room of the search's table.
+pub const TABLE: usize = 48032;
+
+pub fn search(s: &Set, rec: [f64; 3], a: f64, i: f64) -> Answer<[f64; 3]> {
+    let s = working(s, 2);
+    let call = |table: *mut f64, room: usize, out: *mut f64| unsafe {
+        wisvalom_search_starts(
+            s.counts.as_ptr(), s.counts.len(), s.times.as_ptr(), s.times.len(), s.freqs.as_ptr(), s.freqs.len(), s.centers.as_ptr(),
+            s.centers.len(), rec[0], rec[1], rec[2], a, i, table, room, out,
+        )
+    };
+    let mut table = Lent::new(TABLE, PATTERN);
+    let got = lent(3, |out| call(table.start(), TABLE, out));
+    table.guarded();
+    if got.is_ok() {
+        let mut out = Lent::new(3, PATTERN);
+        short(TABLE, PATTERN, |table, room| call(table, room, out.start()));
+        out.written(0);
+    }
+    got.map(|v| v.try_into().unwrap())
+}
+
+pub fn solve(n: u64, matrix: &[f64], vector: &[f64]) -> Answer<Vec<f64>> {
+    let n = n as usize;
+    let call = |out: *mut f64, room: usize, scratch: *mut f64, places: usize| unsafe {
+        wisvalom_solve_linear_system(matrix.as_ptr(), matrix.len(), vector.as_ptr(), vector.len(), n, out, room, scratch, places)
+    };
+    let (spare, cells) = (spare(matrix.len() + n), n * (n + 1));
+    let mut scratch = Lent::new(cells + spare, PATTERN);
+    let mut out = Lent::new(n + spare, PATTERN);
+    let refusal = call(out.start(), n + spare, scratch.start(), cells + spare);
+    let got = out.written(if refusal == 0 { n } else { 0 });
+    // Scratch is untouched up to 21, and all zeros after.
+    if refusal == 0 || refusal == 22 {
+        scratch.all(0.0);
+        let (mut scratch, mut out) = (Lent::new(cells, PATTERN), Lent::new(n, PATTERN));
+        short(n, PATTERN, |o, room| call(o, room, scratch.start(), cells));
+        short(cells, PATTERN, |s, places| call(out.start(), n, s, places));
+        scratch.written(0);
+        out.written(0);
+    } else {
+        scratch.written(0);
+    }
+    if refusal == 0 { Ok(got) } else { Err(refusal) }
+}
+
+/// The first bytes of an output, whose number stands in a place of its own: 0 after a refusal.
+fn counted(needed: usize, call: impl Fn(*mut u8, usize, *mut usize) -> u32) -> Answer<Vec<u8>> {
+    let room = needed + spare(needed);
+    let (mut out, mut length) = (Lent::new(room, 0xa5u8), Lent::new(1, usize::MAX));
+    let refusal = call(out.start(), room, length.start());
+    let n = length.written(1)[0];
+    let got = out.written(n);
+    if refusal != 0 {
+        assert!(n == 0, "a refusal with {n} bytes");
+        return Err(refusal);
+    }
+    short(needed, 0xa5u8, |out, room| call(out, room, length.start()));
+    assert!(length.written(1)[0] == 0, "refusal 21 with bytes");
+    Ok(got)
+}
+
+pub fn lines(name: &[u8], e: [f64; 4], epoch: Moment) -> Answer<Vec<u8>> {
+    counted(name.len() + 141, |out, room, length| unsafe {
+        wisvalom_format_tle_catalog(name.as_ptr(), name.len(), e[0], e[1], e[2], e[3], epoch.seconds, epoch.nanos, out, room, length)
+    })
+}
+
+pub fn checksum(line: &str) -> u32 {
+    unsafe { wisvalom_tle_checksum(line.as_ptr(), line.len()) }
+}
+
+/// The loaded set; it is stored again, and the bytes must be the given ones, but for NaN.
+pub fn load(b: &[u8]) -> Answer<Set> {
+    let mut numbers = Lent::new(2, usize::MAX);
+    let at = numbers.start();
+    let call = |counts: *mut u32, n: usize, times: *mut i64, t: usize, freqs: *mut f64, f: usize| unsafe {
+        wisvalom_load(b.as_ptr(), b.len(), counts, n, times, t, freqs, f, at, at.add(1))
+    };
+    let room = b.len() / 4 + 1;
+    let (mut counts, mut times, mut freqs) = (Lent::new(room, 0x5a5a5a5au32), Lent::new(room, TIME), Lent::new(room, PATTERN));
+    let refusal = call(counts.start(), room, times.start(), room, freqs.start(), room);
+    let n = numbers.written(2);
+    let set = Set { counts: counts.written(n[0]), centers: vec![0.0; n[0]], times: times.written(n[1]), freqs: freqs.written(n[1]) };
+    if refusal != 0 {
+        assert!(n == [0, 0], "a refusal with {n:?}");
+        return Err(refusal);
+    }
+    let (mut counts, mut times, mut freqs) = (Lent::new(room, 0x5a5a5a5au32), Lent::new(room, TIME), Lent::new(room, PATTERN));
+    let (c, t, f) = (counts.start(), times.start(), freqs.start());
+    short(n[0], 0x5a5a5a5au32, |c, places| call(c, places, t, room, f, room));
+    short(n[1], TIME, |t, places| call(c, room, t, places, f, room));
+    short(n[1], PATTERN, |f, places| call(c, room, t, room, f, places));
+    counts.written(0);
+    times.written(0);
+    freqs.written(0);
+    let again = store(&set).expect("a loaded set is stored");
+    let numbers = Set { freqs: set.freqs.iter().map(|&f| f64::from_bits(common::lines::bits(f))).collect(), ..set.clone() };
+    assert!(again == numbers.stored(), "stored bytes differ");
+    Ok(set)
+}
+
+pub fn store(s: &Set) -> Answer<Vec<u8>> {
+    counted(4 + 4 * s.counts.len() + 16 * s.times.len(), |out, room, length| unsafe {
+        wisvalom_store(s.counts.as_ptr(), s.counts.len(), s.times.as_ptr(), s.times.len(), s.freqs.as_ptr(), s.freqs.len(), out, room, length)
+    })
+}
+
+/// As many places are lent as a file may have samples; a file of some is refused with one place less.
+pub fn file(bytes: &[u8]) -> Answer<File> {
+    let (mut numbers, mut center) = (Lent::new(4, usize::MAX), Lent::new(1, PATTERN));
+    let (at, middle) = (numbers.start(), center.start());
+    let call = |times: *mut i64, t: usize, freqs: *mut f64, f: usize| unsafe {
+        wisvalom_read_pass_file(bytes.as_ptr(), bytes.len(), times, t, freqs, f, at as *mut [usize; 4], middle)
+    };
+    let room = 4096;
+    let (mut times, mut freqs) = (Lent::new(room, TIME), Lent::new(room, PATTERN));
+    let refusal = call(times.start(), room, freqs.start(), room);
+    let count = if refusal == 0 { unsafe { *at } } else { 0 };
+    let (got_times, got_freqs) = (times.written(count), freqs.written(count));
+    if refusal == 0 {
+        let mut other = Lent::new(room, PATTERN);
+        let places = other.start();
+        short(count, TIME, |t, n| call(t, n, places, room));
+        let mut other_times = Lent::new(room, TIME);
+        let places = other_times.start();
+        short(count, PATTERN, |f, n| call(places, room, f, n));
+        other.written(0);
+        other_times.written(0);
+    }
+    let ok = (refusal == 0) as usize;
+    let (numbers, center) = (numbers.written(4 * ok), center.written(ok));
+    if refusal != 0 {
+        return Err(refusal);
+    }
+    Ok(File {
+        seen: numbers[3] == 1,
+        name: bytes[numbers[1]..numbers[2]].to_vec(),
+        center: center[0],
+        times: got_times,
+        freqs: got_freqs,
+    })
+}
+
+// Not exported yet.
 pub fn wgs84(_: f64, _: f64, _: f64) -> [f64; 3] {
     unimplemented!()
 }
@@ -247,8 +516,5 @@ pub fn second(_: &Set, _: [f64; 3], _: State, _: usize) -> Answer<State> {
     unimplemented!()
 }
 pub fn fit(_: &Set, _: [f64; 3], _: f64, _: f64) -> Answer<Fit> {
-    unimplemented!()
-}
-pub fn load(_: &[u8]) -> Answer<Set> {
     unimplemented!()
 }

@@ -1,8 +1,14 @@
 // Functions that other languages link: numbers pass as themselves, a slice as its start and length. The names begin
 // with the program's, since a name is the whole program's, as in C. Those that can refuse return the number of the
 // refusal, 0 if none, and write what they give into `out`.
+pub mod draws;
+pub mod elements;
 pub mod files;
+pub mod floats;
 pub mod maps;
+pub mod sets;
+pub mod sums;
+pub mod systems;
 
 ghost use mathlib.Core.Path.{_≡_};
 ghost use Rattle.roots.specs.Root.{sqrtOf};
