@@ -9,6 +9,7 @@
 #ifndef WISVALOM_H
 #define WISVALOM_H
 
+#include <stdbool.h>
 #include <stddef.h>
 #include <stdint.h>
 
@@ -95,6 +96,18 @@ uint32_t wisvalom_compute_gradient(const uint32_t *counts, size_t passes, const 
 uint32_t wisvalom_search_starts(const uint32_t *counts, size_t passes, const int64_t *times, size_t samples, const double *freqs,
                                 size_t frequencies, const double *centers, size_t centres, double x, double y, double z, double a,
                                 double i, double *table, size_t table_room, double out[3]);
+
+/* The residuals of a set of parameters (a, i, raan0, u0, then each pass's biases: two in the first refinement, four in the second) with
+ * their penalised sum, and one trial of a refinement from any state, with what follows it. The epoch is the first sample's moment; no
+ * pass is empty. `out` has 4,144 numbers or more, `scratch` 281,792, which are written over. *ended: 0 it goes on, 1 a moment is too
+ * far (23), 2 too few residuals, 3 the damping, 4 a pivot, 5 a small step. Refuse: 4, 5, 10 (no sample), 21; the residuals also 23. */
+uint32_t wisvalom_residuals(bool second, const uint32_t *counts, size_t passes, const int64_t *times, size_t samples,
+                            const double *freqs, size_t frequencies, double center_freq, double x, double y, double z,
+                            const double params[68], double *out, size_t room, double *sum);
+uint32_t wisvalom_trial(bool second, const uint32_t *counts, size_t passes, const int64_t *times, size_t samples,
+                        const double *freqs, size_t frequencies, double center_freq, double x, double y, double z,
+                        double params[68], double best_params[68], double *damping, double *best, uint32_t *ended, double *scratch,
+                        size_t scratch_room);
 
 /* Solves a system of n rows, the matrix row by row; scratch has n*(n + 1) numbers or more. Refuses: 5, 12, 21, 22. */
 uint32_t wisvalom_solve_linear_system(const double *matrix, size_t cells, const double *vector, size_t rows, size_t n, double *out,

@@ -8,8 +8,8 @@ pub use patched::judge::{Answer, File, Fit, State};
 pub const KINDS: &[&str] = &[
     "sqrt", "cbrt", "sin", "cos", "ln", "abs", "floor", "round", "signum", "to_degrees", "to_radians", "powi2", "powi3",
     "max", "min", "rem_euclid", "to_u64", "to_i64", "wrapping_mul", "draw", "gaussian", "monna", "unmonna", "padic",
-    "history", "normal", "jd", "teme", "prop", "pred", "poly", "pca", "rss", "grad", "solve", "lines", "checksum", "file", "load",
-    "store",
+    "history", "normal", "jd", "teme", "prop", "pred", "poly", "pca", "rss", "grad", "solve", "residuals1",
+    "residuals2", "step1", "step2", "lines", "checksum", "file", "load", "store",
 ];
 
 #[link(name = "exports", kind = "static")]
@@ -101,6 +101,15 @@ unsafe extern "C" {
     pub fn wisvalom_format_tle_catalog(
         name: *const u8, n: usize, a: f64, i: f64, raan0: f64, u0: f64, epoch: i64, epoch_nanos: u32,
         out: *mut u8, room: usize, length: *mut usize,
+    ) -> u32;
+    pub fn wisvalom_residuals(
+        second: bool, counts: *const u32, passes: usize, times: *const i64, samples: usize, freqs: *const f64, frequencies: usize,
+        center_freq: f64, x: f64, y: f64, z: f64, params: *const f64, out: *mut f64, room: usize, sum: *mut f64,
+    ) -> u32;
+    pub fn wisvalom_trial(
+        second: bool, counts: *const u32, passes: usize, times: *const i64, samples: usize, freqs: *const f64, frequencies: usize,
+        center_freq: f64, x: f64, y: f64, z: f64, params: *mut f64, best_params: *mut f64, damping: *mut f64, best: *mut f64,
+        ended: *mut u32, scratch: *mut f64, room: usize,
     ) -> u32;
 }
 
@@ -502,17 +511,79 @@ pub fn file(bytes: &[u8]) -> Answer<File> {
     })
 }
 
+/// A set of parameters in as many places as a call has for it, the others holding a pattern.
+fn places(set: &[f64]) -> Lent<f64> {
+    let mut all = Lent::new(PARAMS, PATTERN);
+    unsafe { std::slice::from_raw_parts_mut(all.start(), set.len()) }.copy_from_slice(set);
+    all
+}
+
+pub const PARAMS: usize = 68;
+pub const ROWS: usize = 4144;
+pub const CELLS: usize = ROWS * PARAMS;
+
+/// The residuals and the penalised sum of a set of parameters, by the passes that the refinement takes.
+pub fn residuals(second_one: bool, s: &Set, rec: [f64; 3], set: &[f64]) -> Answer<(Vec<f64>, f64)> {
+    let s = working(s, if second_one { 16 } else { 2 });
+    let mut params = places(set);
+    let mut call = |out: *mut f64, room: usize, sum: *mut f64| unsafe {
+        wisvalom_residuals(
+            second_one, s.counts.as_ptr(), s.counts.len(), s.times.as_ptr(), s.times.len(), s.freqs.as_ptr(), s.freqs.len(), s.centers[0],
+            rec[0], rec[1], rec[2], params.start(), out, room, sum,
+        )
+    };
+    let (mut out, mut sum) = (Lent::new(ROWS, PATTERN), Lent::new(1, PATTERN));
+    let refusal = call(out.start(), ROWS, sum.start());
+    let got = sum.written(1)[0];
+    if refusal != 0 {
+        out.guarded();
+        assert!(got == 0.0, "a refusal with a sum");
+        return Err(refusal);
+    }
+    short(ROWS, PATTERN, |out, room| call(out, room, sum.start()));
+    params.written(set.len());
+    Ok((out.written(s.times.len() + s.counts.len() * if second_one { 3 } else { 1 }), got))
+}
+
+fn trial(second_one: bool, s: &Set, rec: [f64; 3], from: State) -> Answer<State> {
+    let s = working(s, if second_one { 16 } else { 2 });
+    let n = from.set.len();
+    let (mut params, mut kept, mut numbers, mut ended) = (places(&from.set), places(&from.kept), Lent::new(2, PATTERN), Lent::new(1, u32::MAX));
+    let mut call = |scratch: *mut f64, room: usize| unsafe {
+        let number = numbers.start();
+        *number = from.damping;
+        *number.add(1) = from.best;
+        wisvalom_trial(
+            second_one, s.counts.as_ptr(), s.counts.len(), s.times.as_ptr(), s.times.len(), s.freqs.as_ptr(), s.freqs.len(), s.centers[0],
+            rec[0], rec[1], rec[2], params.start(), kept.start(), number, number.add(1), ended.start(), scratch, room,
+        )
+    };
+    short(CELLS, PATTERN, &mut call);
+    let mut scratch = Lent::new(CELLS, PATTERN);
+    let refusal = call(scratch.start(), CELLS);
+    scratch.guarded();
+    let (set, kept, numbers) = (params.written(n), kept.written(n), numbers.written(2));
+    match (refusal, ended.written(1)[0]) {
+        (0, 1) => Err(23),
+        (0, 2) if second_one => Err(10),
+        (0, _) => Ok(State { set, damping: numbers[0], best: numbers[1], kept }),
+        _ => Err(refusal),
+    }
+}
+
+/// One trial; the judge makes any number.
+pub fn first(s: &Set, rec: [f64; 3], from: State, tries: usize) -> Answer<State> {
+    assert!(tries == 1);
+    trial(false, s, rec, from)
+}
+
+pub fn second(s: &Set, rec: [f64; 3], from: State, tries: usize) -> Answer<State> {
+    assert!(tries == 1);
+    trial(true, s, rec, from)
+}
+
 // Not exported yet.
 pub fn wgs84(_: f64, _: f64, _: f64) -> [f64; 3] {
-    unimplemented!()
-}
-pub fn residuals(_: bool, _: &Set, _: [f64; 3], _: &[f64]) -> Answer<(Vec<f64>, f64)> {
-    unimplemented!()
-}
-pub fn first(_: &Set, _: [f64; 3], _: State, _: usize) -> Answer<State> {
-    unimplemented!()
-}
-pub fn second(_: &Set, _: [f64; 3], _: State, _: usize) -> Answer<State> {
     unimplemented!()
 }
 pub fn fit(_: &Set, _: [f64; 3], _: f64, _: f64) -> Answer<Fit> {

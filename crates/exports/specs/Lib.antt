@@ -3,6 +3,7 @@ pub mod Draws
 pub mod Elements
 pub mod Maps
 pub mod Files
+pub mod Refinements
 pub mod Sets
 pub mod Sums
 pub mod Systems

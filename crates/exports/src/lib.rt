@@ -6,6 +6,7 @@ pub mod elements;
 pub mod files;
 pub mod floats;
 pub mod maps;
+pub mod refinements;
 pub mod sets;
 pub mod sums;
 pub mod systems;

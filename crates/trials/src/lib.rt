@@ -213,7 +213,7 @@ fn advance_restored(
 }
 
 // One trial of the state's next set, and what follows it.
-fn turn(
+pub fn turn(
     second: bool,
     enough: bool,
     counts: &[u32],
