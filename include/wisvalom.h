@@ -120,6 +120,17 @@ uint32_t wisvalom_load(const uint8_t *bytes, size_t n, uint32_t *counts, size_t 
 uint32_t wisvalom_store(const uint32_t *counts, size_t passes, const int64_t *times, size_t samples, const double *freqs,
                         size_t frequencies, uint8_t *out, size_t room, size_t *size);
 
+/* Fits one circular orbit. The biases of the P non-empty passes go to the first places of dts, dfs, df1s and df2s, the sums of the
+ * trials to those of log, which has 150 or more; scratch has (S + 3P)*(5 + 4P) + 20,000 or more for S samples. Refuses, in this
+ * order: 5, 4, 6, 7, 8, 9, 10, 21, 23, 24, 25; orbit, epoch, count and best sum are then zeros. Scratch is left alone up to 21, and all zeros
+ * after any later ending. */
+uint32_t wisvalom_fit_orbit_doppler(const uint32_t *counts, size_t passes, const int64_t *times, size_t samples, const double *freqs,
+                                    size_t frequencies, const double *centers, size_t centres, double x, double y, double z,
+                                    double initial_a, double initial_i, double *dts, size_t dts_room, double *dfs,
+                                    size_t dfs_room, double *df1s, size_t df1s_room, double *df2s, size_t df2s_room, double *log,
+                                    size_t log_room, double *scratch, size_t scratch_room, double *a, double *i, double *raan0,
+                                    double *u0, int64_t *epoch, uint32_t *epoch_nanos, size_t *trials, double *best);
+
 /* The checksum of a line's first 68 columns; the name line and the two element lines. Refuses: 4, 11, 21; *length is then 0. */
 uint32_t wisvalom_tle_checksum(const uint8_t *line, size_t n);
 uint32_t wisvalom_format_tle_catalog(const uint8_t *name, size_t n, double a, double i, double raan0, double u0, int64_t epoch,

@@ -111,6 +111,14 @@ unsafe extern "C" {
         center_freq: f64, x: f64, y: f64, z: f64, params: *mut f64, best_params: *mut f64, damping: *mut f64, best: *mut f64,
         ended: *mut u32, scratch: *mut f64, room: usize,
     ) -> u32;
+    pub fn wisvalom_fit_orbit_doppler(
+        counts: *const u32, passes: usize, times: *const i64, samples: usize,
+        freqs: *const f64, frequencies: usize, centers: *const f64, centres: usize,
+        x: f64, y: f64, z: f64, initial_a: f64, initial_i: f64,
+        dts: *mut f64, dts_room: usize, dfs: *mut f64, dfs_room: usize, df1s: *mut f64, df1s_room: usize, df2s: *mut f64, df2s_room: usize,
+        log: *mut f64, log_room: usize, scratch: *mut f64, scratch_room: usize,
+        a: *mut f64, i: *mut f64, raan0: *mut f64, u0: *mut f64, epoch: *mut i64, epoch_nanos: *mut u32, trials: *mut usize, best: *mut f64,
+    ) -> u32;
 }
 
 /// Memory lent to a call: `n` places between guards, all filled with a pattern.
@@ -582,10 +590,72 @@ pub fn second(s: &Set, rec: [f64; 3], from: State, tries: usize) -> Answer<State
     trial(true, s, rec, from)
 }
 
+/// The scratch that a fit needs.
+pub fn fit_scratch(samples: usize, passes: usize) -> usize {
+    (samples + 3 * passes) * (5 + 4 * passes) + 20_000
+}
+
+/// The fit; positions are not counted.
+pub fn fit(s: &Set, rec: [f64; 3], a: f64, i: f64) -> Answer<Fit> {
+    let (passes, samples) = (s.non_empty(), s.times.len());
+    let more = spare(samples);
+    // Four slices of biases, the log, the scratch.
+    let needed = [passes, passes, passes, passes, 150, fit_scratch(samples.min(4096), passes.min(16))];
+    let mut numbers = Lent::new(5, PATTERN);
+    let (mut epoch, mut nanos, mut trials) = (Lent::new(1, TIME), Lent::new(1, u32::MAX), Lent::new(1, usize::MAX));
+    let mut call = |lent: &mut [Lent<f64>]| unsafe {
+        let mut at = lent.iter_mut().map(|l| (l.places().len(), l.start()));
+        let mut next = || at.next().unwrap();
+        let (dts, dfs, df1s, df2s, log, scratch) = (next(), next(), next(), next(), next(), next());
+        let number = numbers.start();
+        wisvalom_fit_orbit_doppler(
+            s.counts.as_ptr(), s.counts.len(), s.times.as_ptr(), samples, s.freqs.as_ptr(), s.freqs.len(), s.centers.as_ptr(), s.centers.len(),
+            rec[0], rec[1], rec[2], a, i, dts.1, dts.0, dfs.1, dfs.0, df1s.1, df1s.0, df2s.1, df2s.0, log.1, log.0, scratch.1, scratch.0,
+            number, number.add(1), number.add(2), number.add(3), epoch.start(), nanos.start(), trials.start(), number.add(4),
+        )
+    };
+    let lend = |room: &[usize]| room.iter().map(|&n| Lent::new(n, PATTERN)).collect::<Vec<_>>();
+    // One place less of any of them is 21, before any work; after an earlier refusal it is that one.
+    let mut early = Vec::new();
+    for short in 0..6 {
+        let mut room = needed;
+        if room[short] > 0 {
+            room[short] -= 1;
+            let mut lent = lend(&room);
+            early.push(call(&mut lent));
+            lent.iter().for_each(|l| drop(l.written(0)));
+        }
+    }
+    let mut lent = lend(&needed.map(|n| n + more));
+    let refusal = call(&mut lent);
+    let worked = refusal == 0 || refusal > 21;
+    assert!(early.iter().all(|&n| n == if worked { 21 } else { refusal }), "refusal {refusal}, with less memory {early:?}");
+    let (count, number) = (trials.written(1)[0], numbers.written(5));
+    let (seconds, nanos) = (epoch.written(1)[0], nanos.written(1)[0]);
+    let written = |k: usize, n: usize| lent[k].written(if refusal == 0 { n } else { 0 });
+    let biases: Vec<Vec<f64>> = (0..4).map(|k| written(k, passes)).collect();
+    let log = written(4, count);
+    if worked {
+        lent[5].all(0.0);
+    } else {
+        lent[5].written(0);
+    }
+    if refusal != 0 {
+        assert!(number.iter().all(|v| v.to_bits() == 0) && (seconds, nanos, count) == (0, 0, 0), "a refusal with numbers");
+        return Err(refusal);
+    }
+    Ok(Fit {
+        orbit: [number[0], number[1], number[2], number[3]],
+        epoch: Moment { seconds, nanos }.nanos(),
+        biases: (0..passes).map(|p| [biases[0][p], biases[1][p], biases[2][p], biases[3][p]]).collect(),
+        log,
+        sum: number[4],
+        positions: 0,
+        ended: "",
+    })
+}
+
 // Not exported yet.
 pub fn wgs84(_: f64, _: f64, _: f64) -> [f64; 3] {
-    unimplemented!()
-}
-pub fn fit(_: &Set, _: [f64; 3], _: f64, _: f64) -> Answer<Fit> {
     unimplemented!()
 }

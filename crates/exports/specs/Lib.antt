@@ -1,6 +1,7 @@
 pub mod Answers
 pub mod Draws
 pub mod Elements
+pub mod Fits
 pub mod Maps
 pub mod Files
 pub mod Refinements

@@ -4,6 +4,7 @@
 pub mod draws;
 pub mod elements;
 pub mod files;
+pub mod fits;
 pub mod floats;
 pub mod maps;
 pub mod refinements;

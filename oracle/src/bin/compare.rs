@@ -19,6 +19,11 @@ judge!(patched_side, patched::judge);
 judge!(published_side, published::judge);
 judge!(port_side, crate::port);
 
+/// The fields behind the '='.
+fn answer(line: &str) -> &str {
+    line.split_once("= ").unwrap().1
+}
+
 fn main() {
     let mut words: Vec<String> = std::env::args().skip(1).collect();
     let published = words.iter().any(|w| w == "published");
@@ -49,15 +54,23 @@ fn main() {
                 eprintln!("no kind {kind}");
                 std::process::exit(2);
             };
-            if said.0 != got.0 {
+            let (mut said, mut got) = (said.0, got.0);
+            // The last field of an accepted fit is its number of positions, which the port does not count.
+            if kind == "fit" {
+                for line in [&mut said, &mut got] {
+                    if answer(line).starts_with("0000000000000000 ") {
+                        line.truncate(line.len() - 17);
+                    }
+                }
+            }
+            if said != got {
                 differences += 1;
                 if differences <= 3 {
-                    println!("DIFFERENCE {kind} {seed} {k}\n  original {}\n  port     {}", said.0, got.0);
+                    println!("DIFFERENCE {kind} {seed} {k}\n  original {}\n  port     {}", said, got);
                 }
             }
             if refuses(kind) {
-                let answer = said.0.split_once("= ").unwrap().1;
-                *refusals.entry(u64::from_str_radix(&answer[..16], 16).unwrap()).or_default() += 1;
+                *refusals.entry(u64::from_str_radix(&answer(&said)[..16], 16).unwrap()).or_default() += 1;
             }
         }
         let refused: Vec<String> = refusals.iter().map(|(n, c)| format!("{n}: {c}")).collect();

@@ -1,0 +1,9 @@
+-- What the fit's call promises, with its answer's fields as places of their own.
+use mathlib.Core.List.{List}
+use Prim.Native.Nat.{ℕ}
+use lib.Ieee.{Float}
+use Rattle.solution.specs.declared.SolvedOrbit.{SolvedOrbit}
+use Rattle.fit.specs.Answer.{Arguments, Outputs, Fits}
+
+abbrev pub FitsTo : Arguments → (o o′ : Outputs) (scratch scratch′ : List Float) → SolvedOrbit → ℕ → Float → ℕ → Type 0
+FitsTo x o o′ scratch scratch′ orbit trials best r = Fits x o o′ scratch scratch′ (record { refusal = r; orbit = orbit; trials = trials; best = best })
