@@ -1,5 +1,6 @@
 //! bench [ROUNDS [NAME]]: the port against the published and the patched original, one thread, the same inputs; with NAME only the
 //! functions in whose name it stands.
+//! bench whole [ROUNDS [NAME]]: searches, single trials and whole fits of the port and the published original.
 //!
 //! A round times every copy on all inputs, in turning order, by the thread's processor time, so that other programs on
 //! the machine count little. A copy's time is the median over the rounds; a ratio is taken within a round, and given as
@@ -76,6 +77,115 @@ fn floats<'a>(inputs: &'a [f64], f: impl Fn(f64) -> f64 + 'a) -> Run<'a> {
     })
 }
 
+/// Two copies, port and published, in turning order; medians with the least and the greatest.
+fn whole(name: &str, rounds: usize, runs: [Run; 2]) {
+    if std::env::args().nth(3).is_some_and(|part| !name.contains(&part)) {
+        return;
+    }
+    let mut times = [vec![], vec![]];
+    for round in 0..rounds {
+        for k in 0..2 {
+            let which = (k + round) % 2;
+            let began = now();
+            runs[which]();
+            times[which].push(now() - began);
+        }
+    }
+    let show = |v: Vec<f64>, unit: f64, places: usize| {
+        let part = |p: f64| part(&v, p) * unit;
+        format!("{:.places$} ({:.places$} to {:.places$})", part(0.5), part(0.0), part(1.0))
+    };
+    let ratio = sorted((0..rounds).map(|n| times[0][n] / times[1][n]));
+    println!(
+        "| {name} | {} | {} | {} |",
+        show(sorted(times[0].iter().copied()), 1e3, 1),
+        show(sorted(times[1].iter().copied()), 1e3, 1),
+        show(ratio, 1.0, 2)
+    );
+}
+
+fn wholes(rounds: usize) {
+    use published::{judge, orbit_solver as solver};
+    println!("| what | port (ms) | published (ms) | port / published |");
+    println!("|---|---|---|---|");
+    for (passes, samples) in [(2, 200), (2, 1000)] {
+        let c = common::simulator::realistic(1, passes, samples);
+        let (s, rec) = (&c.set, c.receiver);
+        let all = judge::passes(s);
+        let (epoch, center) = (all[0].points[0].time, all[0].center_freq);
+        whole(&format!("search, {passes} passes, {samples} samples"), rounds, [
+            Box::new(|| {
+                let (mut table, mut out) = (vec![0.0; port::TABLE], [0.0; 3]);
+                let refusal = unsafe {
+                    port::wisvalom_search_starts(
+                        s.counts.as_ptr(), s.counts.len(), s.times.as_ptr(), s.times.len(), s.freqs.as_ptr(), s.freqs.len(),
+                        s.centers.as_ptr(), s.centers.len(), rec[0], rec[1], rec[2], 7e6, c.i, table.as_mut_ptr(), table.len(), out.as_mut_ptr(),
+                    )
+                };
+                assert!(refusal == 0);
+                black_box(out);
+            }),
+            Box::new(|| {
+                let start = vec![7e6, c.i, 0.0, 0.0, 0.0, 0.0, 0.0, 0.0];
+                black_box(solver::search_block(black_box(&all), rec, start, epoch, center));
+            }),
+        ]);
+    }
+    for (passes, samples) in [(2, 200), (8, 800), (16, 1600)] {
+        let c = common::simulator::realistic(1, passes, samples);
+        let (s, rec, n) = (&c.set, c.receiver, 4 + 4 * passes);
+        let all = judge::passes(s);
+        let (epoch, center) = (all[0].points[0].time, all[0].center_freq);
+        let set: Vec<f64> = [7e6, c.i, 1.0, 2.0].into_iter().chain((4..n).map(|k| [3.0, 100.0, 0.01, 1e-4][k % 4])).collect();
+        whole(&format!("trial with its step, {passes} passes, {samples} samples"), rounds * 3, [
+            Box::new(|| {
+                let (mut params, mut scratch) = ([0.0; port::PARAMS], vec![0.0; port::CELLS]);
+                params[..n].copy_from_slice(&set);
+                let (mut kept, mut damping, mut best, mut ended) = (params, 1e-3, f64::MAX, 0);
+                let refusal = unsafe {
+                    port::wisvalom_trial(
+                        true, s.counts.as_ptr(), s.counts.len(), s.times.as_ptr(), s.times.len(), s.freqs.as_ptr(), s.freqs.len(), center,
+                        rec[0], rec[1], rec[2], params.as_mut_ptr(), kept.as_mut_ptr(), &mut damping, &mut best, &mut ended,
+                        scratch.as_mut_ptr(), scratch.len(),
+                    )
+                };
+                assert!(refusal == 0 && (ended == 0 || ended == 5));
+                black_box(params);
+            }),
+            Box::new(|| {
+                let went = solver::second_block(black_box(&all), rec, epoch, center, set.clone(), 1e-3, f64::MAX, set.clone(), 1);
+                assert!(went.is_ok());
+                black_box(went.unwrap().0);
+            }),
+        ]);
+    }
+    for (passes, samples) in [(2, 200), (8, 800), (16, 1600)] {
+        let c = common::simulator::realistic(1, passes, samples);
+        let (s, rec) = (&c.set, c.receiver);
+        let all = judge::passes(s);
+        whole(&format!("fit, {passes} passes, {samples} samples"), rounds, [
+            Box::new(|| {
+                let (mut biases, mut log, mut scratch) = ([[0.0; 16]; 4], [0.0; 150], vec![0.0; port::fit_scratch(samples, passes)]);
+                let (mut number, mut epoch, mut nanos, mut trials) = ([0.0; 5], 0, 0, 0);
+                let at = number.as_mut_ptr();
+                let b = biases.as_mut_ptr() as *mut f64;
+                let refusal = unsafe {
+                    port::wisvalom_fit_orbit_doppler(
+                        s.counts.as_ptr(), s.counts.len(), s.times.as_ptr(), s.times.len(), s.freqs.as_ptr(), s.freqs.len(),
+                        s.centers.as_ptr(), s.centers.len(), rec[0], rec[1], rec[2], c.a, c.i, b, 16, b.add(16), 16, b.add(32), 16, b.add(48), 16,
+                        log.as_mut_ptr(), 150, scratch.as_mut_ptr(), scratch.len(), at, at.add(1), at.add(2), at.add(3), &mut epoch, &mut nanos,
+                        &mut trials, at.add(4),
+                    )
+                };
+                black_box((refusal, number));
+            }),
+            Box::new(|| {
+                black_box(solver::fit_orbit_doppler(black_box(&all), rec, c.a, c.i).is_ok());
+            }),
+        ]);
+    }
+}
+
 struct Sample {
     e: [f64; 4],
     epoch: Moment,
@@ -86,6 +196,9 @@ struct Sample {
 }
 
 fn main() {
+    if std::env::args().nth(1).is_some_and(|w| w == "whole") {
+        return wholes(std::env::args().nth(2).map_or(3, |w| w.parse().expect("ROUNDS is a number")));
+    }
     let rounds: usize = std::env::args().nth(1).map_or(31, |w| w.parse().expect("ROUNDS is a number"));
     let mut r = Random::new(1);
     let n = 20_000;
