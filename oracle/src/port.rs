@@ -125,32 +125,37 @@ unsafe extern "C" {
 pub struct Lent<T> {
     room: Vec<T>,
     pattern: T,
+    guard: usize,
 }
 
 const GUARD: usize = 8;
 
 impl<T: Copy + PartialEq + std::fmt::Debug> Lent<T> {
     pub fn new(n: usize, pattern: T) -> Lent<T> {
-        Lent { room: vec![pattern; n + 2 * GUARD], pattern }
+        Lent { room: vec![pattern; n + 2 * GUARD], pattern, guard: GUARD }
+    }
+    /// Without guards, in an allocation of its own: for a run under valgrind.
+    pub fn exact(n: usize, pattern: T) -> Lent<T> {
+        Lent { room: vec![pattern; n], pattern, guard: 0 }
     }
     pub fn start(&mut self) -> *mut T {
-        unsafe { self.room.as_mut_ptr().add(GUARD) }
+        unsafe { self.room.as_mut_ptr().add(self.guard) }
     }
     pub fn places(&self) -> &[T] {
-        &self.room[GUARD..self.room.len() - GUARD]
+        &self.room[self.guard..self.room.len() - self.guard]
     }
     /// The first `written` places; the others, and the guards, must be as they were.
     pub fn written(&self, written: usize) -> Vec<T> {
         for (k, v) in self.room.iter().enumerate() {
-            if k < GUARD || k >= GUARD + written {
-                assert!(*v == self.pattern, "place {} was written: {v:?}", k as i64 - GUARD as i64);
+            if k < self.guard || k >= self.guard + written {
+                assert!(*v == self.pattern, "place {} was written: {v:?}", k as i64 - self.guard as i64);
             }
         }
         self.places()[..written].to_vec()
     }
     /// The guards are as they were.
     pub fn guarded(&self) {
-        let (low, high) = (&self.room[..GUARD], &self.room[self.room.len() - GUARD..]);
+        let (low, high) = (&self.room[..self.guard], &self.room[self.room.len() - self.guard..]);
         assert!(low.iter().chain(high).all(|x| *x == self.pattern), "a guard was written");
     }
     /// All places hold v (scratch after a call that worked), and the guards are as they were.
@@ -161,7 +166,7 @@ impl<T: Copy + PartialEq + std::fmt::Debug> Lent<T> {
 }
 
 /// A number that no answer has.
-const PATTERN: f64 = -6.28e-271;
+pub const PATTERN: f64 = -6.28e-271;
 
 /// Lends n floats to a call that writes all of them or refuses and writes none.
 pub fn lent(n: usize, call: impl FnOnce(*mut f64) -> u32) -> Answer<Vec<f64>> {

@@ -1,0 +1,176 @@
+//! damage SEED COUNT [exact] [ENTRY..]: COUNT damaged byte inputs to each of the port's entry points that take bytes (file, load,
+//! lines, checksum), or to those named. The bytes and every output are lent between guards; after each call the guards, the bytes
+//! and the places that the call had to leave alone are looked at, and its refusal is one that it may give. With `exact` each of them
+//! is lent from an allocation of just its size, for a run under valgrind, which then sees a read past an end too. Prints, for each
+//! entry point, the inputs by refusal; stops at the first fault.
+use common::files;
+use common::numbers::Random;
+use common::simulator;
+use port::Lent;
+use std::collections::BTreeMap;
+
+#[allow(unused_imports)]
+#[path = "../port.rs"]
+mod port;
+
+struct Run {
+    exact: bool,
+    r: Random,
+    pool: Vec<Vec<u8>>,
+}
+
+impl Run {
+    fn lend<T: Copy + PartialEq + std::fmt::Debug>(&self, n: usize, pattern: T) -> Lent<T> {
+        if self.exact { Lent::exact(n, pattern) } else { Lent::new(n, pattern) }
+    }
+
+    /// One of the pool, with up to eight bytes changed, dropped or added, a piece of another put in, an end cut off, or only random bytes.
+    fn input(&mut self) -> Vec<u8> {
+        let r = &mut self.r;
+        if r.one_in(16) {
+            return (0..r.below(200)).map(|_| r.word() as u8).collect();
+        }
+        let mut b = self.pool[r.below(self.pool.len() as u64) as usize].clone();
+        for _ in 0..r.below(9) {
+            let at = r.below(b.len() as u64 + 1) as usize;
+            match r.below(8) {
+                0 => b.insert(at, r.word() as u8),
+                1 => b.insert(at, r.pick(b"\n\r,#:.-+eETZ09 \t")),
+                2 => b.truncate(at),
+                3 => {
+                    let from = &self.pool[r.below(self.pool.len() as u64) as usize];
+                    let start = r.below(from.len() as u64 + 1) as usize;
+                    let end = (start + r.below(40) as usize).min(from.len());
+                    b.splice(at..at, from[start..end].iter().copied());
+                }
+                _ if at == b.len() => {}
+                4 => b[at] = r.word() as u8,
+                5 => b[at] ^= 1 << r.below(8),
+                6 => b[at] = r.pick(&[0, 1, 16, 17, 127, 128, 255, b'\n', b',', b'9']),
+                _ => {
+                    b.remove(at);
+                }
+            }
+        }
+        b
+    }
+
+    /// Lends the bytes to a call, and sees that they are as they were.
+    fn with(&self, bytes: &[u8], call: impl FnOnce(*const u8, usize) -> u32) -> u32 {
+        let mut lent = self.lend(bytes.len(), 0xa5u8);
+        unsafe { std::slice::from_raw_parts_mut(lent.start(), bytes.len()) }.copy_from_slice(bytes);
+        let refusal = call(lent.start(), bytes.len());
+        lent.guarded();
+        assert!(lent.places() == bytes, "the bytes were changed: {bytes:?}");
+        refusal
+    }
+
+    /// Room for all that an input may hold, or about as much as one holds, so that one place less and none to spare come up.
+    fn room(&mut self, about: u64, all: usize) -> usize {
+        if self.r.one_in(3) { self.r.below(about) as usize } else { all }
+    }
+
+    fn file(&mut self) -> u32 {
+        let bytes = self.input();
+        let room = self.room(24, 128);
+        let (mut times, mut freqs) = (self.lend(room, i64::MIN), self.lend(room, port::PATTERN));
+        let (mut numbers, mut center) = (self.lend(4, usize::MAX), self.lend(1, port::PATTERN));
+        let refusal = self.with(&bytes, |b, n| unsafe {
+            port::wisvalom_read_pass_file(b, n, times.start(), room, freqs.start(), room, numbers.start() as *mut [usize; 4], center.start())
+        });
+        let ok = (refusal == 0) as usize;
+        let got = numbers.written(4 * ok);
+        center.written(ok);
+        let count = if refusal == 0 { got[0] } else { 0 };
+        times.written(count);
+        freqs.written(count);
+        if refusal == 0 {
+            assert!(got[1] <= got[2] && got[2] <= bytes.len() && got[3] <= 1, "name {got:?} of {} bytes", bytes.len());
+        }
+        assert!([0, 1, 2, 3, 4, 5, 21].contains(&refusal), "refusal {refusal} of {bytes:?}");
+        refusal
+    }
+
+    fn load(&mut self) -> u32 {
+        let bytes = self.input();
+        let (c, t, f) = (self.room(7, 17), self.room(48, 64), self.room(48, 64));
+        let (mut counts, mut times, mut freqs) = (self.lend(c, 0x5a5a5a5au32), self.lend(t, i64::MIN), self.lend(f, port::PATTERN));
+        let (mut passes, mut samples) = (self.lend(1, usize::MAX), self.lend(1, usize::MAX));
+        let refusal = self.with(&bytes, |b, n| unsafe {
+            port::wisvalom_load(b, n, counts.start(), c, times.start(), t, freqs.start(), f, passes.start(), samples.start())
+        });
+        let (p, s) = (passes.written(1)[0], samples.written(1)[0]);
+        assert!(refusal == 0 || (p, s) == (0, 0), "a refusal with {p} passes and {s} samples");
+        counts.written(p);
+        times.written(s);
+        freqs.written(s);
+        assert!([0, 4, 5, 21].contains(&refusal), "refusal {refusal} of {bytes:?}");
+        refusal
+    }
+
+    fn lines(&mut self) -> u32 {
+        let n = self.r.pick(&[0, 1, 6, 23, 24, 24, 25, 40, 300]);
+        let strange = self.r.one_in(3);
+        let r = &mut self.r;
+        let name: Vec<u8> = (0..n).map(|_| if strange { r.word() as u8 } else { 31 + r.below(97) as u8 }).collect();
+        let room = if r.one_in(3) { 140 + r.below(30) as usize } else { 165 };
+        let (mut out, mut length) = (self.lend(room, 0xa5u8), self.lend(1, usize::MAX));
+        let refusal = self.with(&name, |b, n| unsafe {
+            port::wisvalom_format_tle_catalog(b, n, 7e6, 1.5, 0.1, 6.2, 1781222400, 0, out.start(), room, length.start())
+        });
+        let written = length.written(1)[0];
+        out.written(written);
+        assert!(written == if refusal == 0 { name.len() + 141 } else { 0 }, "{written} bytes, refusal {refusal}");
+        assert!([0, 11, 21].contains(&refusal), "refusal {refusal} of {name:?}");
+        refusal
+    }
+
+    fn checksum(&mut self) -> u32 {
+        let r = &mut self.r;
+        let n = r.below(80);
+        let line: Vec<u8> = (0..n).map(|_| if r.one_in(2) { r.word() as u8 } else { r.pick(b"0123456789-") }).collect();
+        let sum = self.with(&line, |b, n| unsafe { port::wisvalom_tle_checksum(b, n) });
+        assert!(sum <= 9, "checksum {sum}");
+        0
+    }
+}
+
+fn main() {
+    let mut words: Vec<String> = std::env::args().skip(1).collect();
+    let exact = words.iter().any(|w| w == "exact");
+    words.retain(|w| w != "exact");
+    if words.len() < 2 {
+        eprintln!("damage SEED COUNT [exact] [ENTRY..]");
+        std::process::exit(2);
+    }
+    let seed: u64 = words[0].parse().expect("SEED is a number");
+    let count: u64 = words[1].parse().expect("COUNT is a number");
+    let entries: Vec<&str> = if words.len() > 2 { words[2..].iter().map(|s| s.as_str()).collect() } else { vec!["file", "load", "lines", "checksum"] };
+    let mut all = 0;
+    for entry in entries {
+        let began = std::time::Instant::now();
+        let pool: Vec<Vec<u8>> = (0..512u64)
+            .map(|k| match entry {
+                "load" => files::stored(k, &simulator::realistic(k, 2 + k as usize % 4, 6 + k as usize % 40).set),
+                _ => files::file(seed.wrapping_mul(512).wrapping_add(k)),
+            })
+            .filter(|b| b.len() < 5000)
+            .collect();
+        let mut run = Run { exact, r: Random::new(seed), pool };
+        let mut refusals: BTreeMap<u32, u64> = BTreeMap::new();
+        for _ in 0..count {
+            let refusal = match entry {
+                "file" => run.file(),
+                "load" => run.load(),
+                "lines" => run.lines(),
+                "checksum" => run.checksum(),
+                _ => panic!("no entry point {entry}"),
+            };
+            *refusals.entry(refusal).or_default() += 1;
+        }
+        let by: Vec<String> = refusals.iter().map(|(n, c)| format!("{n}: {c}")).collect();
+        println!("{entry}: {count} inputs, no fault, {:.1} s; by refusal {}", began.elapsed().as_secs_f64(), by.join(", "));
+        all += count;
+    }
+    println!("{all} inputs, no fault");
+}
