@@ -3,10 +3,10 @@ use mathlib.Core.Path.{_≡_, refl, sym, ap, _∙_}
 use mathlib.Core.Logic.{inl, inr}
 use mathlib.Core.Bool.{true}
 use Prim.Native.Nat.{ℕ, suc, _+_, _-_, _*_, _/_, _%_, _^_, _≤_, _<_, compare}
-use native.Mathlib.Nat.{le-trans, le-of-eq, le-of-lt, lt-of-lt-of-le, lt-of-le-of-lt, mod-lt, div-add-mod', div-le-self, add-mul, add-assoc, mul-one, mul-assoc, mul-right-comm, mul-le-mul-right, mul-lt-mul-of-pos-right, le-div-iff-mul-le, div-lt-iff-lt-mul, le-mul-of-pos-right, eq-zero-or-pos}
+use native.Mathlib.Nat.{le-trans, le-of-eq, le-of-lt, lt-of-lt-of-le, lt-of-le-of-lt, mod-lt, div-add-mod', div-le-self, add-mul, add-assoc, mul-one, mul-assoc, mul-comm, mul-left-comm, mul-right-comm, mul-le-mul-right, mul-lt-mul-of-pos-right, le-div-iff-mul-le, div-lt-iff-lt-mul, le-mul-of-pos-right, eq-zero-or-pos}
 use native.Mathlib.Omega.{arith}
-use lib.Count.{leadingZeros, leading-of-zero, leading-top}
-use lib.Pow.{pow-add, pow-pos}
+use lib.Count.{leadingZeros, leading-of-zero, leading-top, leading-length}
+use lib.Pow.{pow-add, pow-pos, pow-mono, shl-lt}
 use lib.Ieee.{binary64, round, nearest}
 use lib.Ieee.Nearest.{closest}
 use lib.Ieee.Scale.{round-same}
@@ -41,6 +41,16 @@ module _ (d b p : ℕ) (B : 0 < b) where
       less x y z l m h = omega arith
 
 -- ---- how far p moves
+regroup : (c b x y w : ℕ) → c * b * (x * (y * w)) ≡ c * x * y * b * w
+regroup c b x y w = simp (mul-assoc, mul-comm, mul-left-comm)
+
+-- d with as many places as its word has room for
+pub raised-fits : (d r : ℕ) → d < 2 ^ 64 → r ≤ leadingZeros 64 d → d * 2 ^ r < 2 ^ 64
+raised-fits d r h l =
+    let t = leading-length 64 d h in
+    let e = t .1 in
+    lt-of-lt-of-le (shl-lt (t .0) r (t .2)) (pow-mono {i = t .0 + r} {j = 64} (omega arith))
+
 module _ (d b z : ℕ) (D : d < 2 ^ 64) (B : 0 < b) (e : z ≡ leadingZeros 64 (d / b)) (lo : 11 ≤ z) (hi : z ≤ 63) where
   some-whole : 0 < d / b
   some-whole =
@@ -76,28 +86,29 @@ module _ (d b z : ℕ) (D : d < 2 ^ 64) (B : 0 < b) (e : z ≡ leadingZeros 64 (
       lt-of-lt-of-le (mul-lt-mul-of-pos-right (div-lt-iff-lt-mul {x = d} {y = suc (d / b)} B .0 (omega arith)) (pow-pos (z - 11)))
       (le-trans (le-of-eq (mul-right-comm (suc (d / b)) b (2 ^ (z - 11)))) (mul-le-mul-right b under))
 
-  value : d * b * 2 ^ 1074 ≡ d * 2 ^ (z - 11) * b * 2 ^ (1074 - (z - 11))
-  value =
-      ap (λ (x : ℕ). d * b * x) (ap (λ (x : ℕ). 2 ^ x) back ∙ pow-add 2 (z - 11) (1074 - (z - 11)))
-      ∙ sym (mul-assoc (d * b) (2 ^ (z - 11)) (2 ^ (1074 - (z - 11))))
-      ∙ ap (λ (x : ℕ). x * 2 ^ (1074 - (z - 11))) (mul-right-comm d b (2 ^ (z - 11)))
-    where
-      back : 1074 ≡ z - 11 + (1074 - (z - 11))
-      back = omega arith
+  module _ (c j : ℕ) (up : d ≡ c * 2 ^ j) (most : j ≤ 53) where
+    value : c * b * 2 ^ 1074 ≡ d * 2 ^ (z - 11) * b * 2 ^ (1074 - j - (z - 11))
+    value =
+        ap (λ (x : ℕ). c * b * x) (ap (λ (x : ℕ). 2 ^ x) back ∙ pow-add 2 j (z - 11 + (1074 - j - (z - 11))) ∙ ap (λ (x : ℕ). 2 ^ j * x) (pow-add 2 (z - 11) (1074 - j - (z - 11))))
+        ∙ regroup c b (2 ^ j) (2 ^ (z - 11)) (2 ^ (1074 - j - (z - 11)))
+        ∙ ap (λ (x : ℕ). x * 2 ^ (z - 11) * b * 2 ^ (1074 - j - (z - 11))) (sym up)
+      where
+        back : 1074 ≡ j + (z - 11 + (1074 - j - (z - 11)))
+        back = omega arith
 
-  few : 1074 - (z - 11) ≤ 1400
-  few = omega arith
+    few : 1074 - j - (z - 11) ≤ 1400
+    few = omega arith
 
-  pub made : (down : ℕ) → b ≡ 10 ^ down → Pattern d 0 down ((1074 - (z - 11)) * 2 ^ 52 + closest (d * 2 ^ (z - 11)) b)
-  made down f =
-      let l = closest-le true d b (d * 2 ^ (z - 11)) b (1074 - (z - 11)) B B low high value few in
-      record {
-        small = omega (arith, few, l);
-        is = λ s. (λ i. round binary64 s (one-times i) (sym f i)) ∙ round-bits s d b (d * 2 ^ (z - 11)) b (1074 - (z - 11)) B B low high value few;
-      }
-    where
-      one-times : d * 10 ^ 0 ≡ d
-      one-times = mul-one d
+    pub made : (down : ℕ) → b ≡ 10 ^ down → Pattern c 0 down ((1074 - j - (z - 11)) * 2 ^ 52 + closest (d * 2 ^ (z - 11)) b)
+    made down f =
+        let l = closest-le true c b (d * 2 ^ (z - 11)) b (1074 - j - (z - 11)) B B low high value few in
+        record {
+          small = omega (arith, few, l);
+          is = λ s. (λ i. round binary64 s (one-times i) (sym f i)) ∙ round-bits s c b (d * 2 ^ (z - 11)) b (1074 - j - (z - 11)) B B low high value few;
+        }
+      where
+        one-times : c * 10 ^ 0 ≡ c
+        one-times = mul-one c
 
 -- zeros that `up` brings and `down` takes
 pub lifted : (d up down r : ℕ) → up ≤ down → Pattern d 0 (down - up) r → Pattern d up down r
