@@ -344,13 +344,14 @@ fn main() {
         }),
     ]);
 
-    // Files of 4,096 samples: frequencies with three places, with as many digits as an f64 needs and with an exponent, and
-    // numbers below one, which take the port's long way.
-    let kinds: [(&str, fn(f64) -> String); 4] = [
+    // Files of 4,096 samples: frequencies with three places, with as many digits as an f64 needs, with an exponent and in MHz,
+    // and numbers with twelve places, which take the port's long way.
+    let kinds: [(&str, fn(f64) -> String); 5] = [
         ("three places", |f| format!("{f:.3}")),
         ("17 digits", |f| format!("{f:.8}")),
         ("exponent", |f| format!("{f:.11e}")),
-        ("below one", |f| format!("{:.12}", f / 1e9)),
+        ("MHz", |f| format!("{:.9}", f / 1e6)),
+        ("twelve places", |f| format!("{:.12}", f / 1e9)),
     ];
     for (kind, write) in kinds {
         let mut bytes = b"#Satellite_Name: HERD-1\n#Center_Frequency: 150800000\nutc_timestamp,f\n".to_vec();
