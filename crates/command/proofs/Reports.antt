@@ -1,0 +1,87 @@
+-- The report's numbers. Assumes nothing.
+use mathlib.Core.Path.{_≡_, refl, sym, ap, _∙_}
+use mathlib.Core.Bool.{Bool, true, false, cond}
+use mathlib.Core.List.{List}
+use Prim.Native.Nat.{ℕ, zero, suc, _+_, _≤_, _<_}
+use native.Mathlib.Omega.{arith}
+use mir.Syntax.{w32}
+use mir.Val.{Fits}
+use lib.IntN.{ℤ, pos}
+use lib.Ieee.{Float, nan, binary64, ofInt}
+use lib.ListN.{length, getD}
+use borrow.Author.Tests.{lt-ltb, le-ltb, eq-eqb, ne-eqb}
+use Rattle.float.specs.Ops.{_⊘_}
+use Rattle.roots.specs.Root.{sqrtOf}
+use Rattle.loops.specs.Loop.{for}
+use Rattle.arguments.specs.Passes.{centerOf}
+use Rattle.moment.specs.Sample.{timeInRange, momentAt}
+use Rattle.moment.specs.declared.Moment.{Moment}
+use Rattle.frame.specs.declared.Vec3.{Vec3}
+use Rattle.solution.specs.declared.SolvedOrbit.{SolvedOrbit}
+use Rattle.command.specs.Report.{noMoment, momentIn, sampleMoment, passAt, squaresOf, walkPass, withPass, opening, meanRoot, rmsOf}
+use Rattle.command.specs.declared.report.Pass.{Pass}
+use Rattle.command.specs.declared.report.Walk.{Walk}
+
+pub in-time : (u t : ℤ) {b : Bool} {m : Moment} → u ≡ t → b ≡ timeInRange u → b ≡ true → m ≡ momentAt u → m ≡ momentIn t
+unfolding momentIn
+in-time u t s e h g = g ∙ ap momentAt s ∙ sym (ap (λ (b : Bool). cond b (momentAt t) noMoment) (ap timeInRange (sym s) ∙ sym e ∙ h))
+
+pub out-of-time : (u t : ℤ) {b : Bool} → u ≡ t → b ≡ timeInRange u → b ≡ false → noMoment ≡ momentIn t
+unfolding momentIn
+out-of-time u t s e h = sym (ap (λ (b : Bool). cond b (momentAt t) noMoment) (ap timeInRange (sym s) ∙ sym e ∙ h))
+
+pub at-sample : (u : ℤ) (times : List ℤ) (k : ℕ) {m : Moment} → u ≡ getD times k (pos 0) → k < length times → m ≡ momentIn u → m ≡ sampleMoment times k
+unfolding sampleMoment
+at-sample u times k {m} s h g = g ∙ ap momentIn s ∙ sym (ap (λ (b : Bool). cond b (momentIn (getD times k (pos 0))) noMoment) (lt-ltb k (length times) h))
+
+pub past-samples : (times : List ℤ) (k : ℕ) → length times ≤ k → noMoment ≡ sampleMoment times k
+unfolding sampleMoment
+past-samples times k h = sym (ap (λ (b : Bool). cond b (momentIn (getD times k (pos 0))) noMoment) (le-ltb k (length times) h))
+
+-- one pass more
+pub walks : (g : Pass) (times : List ℤ) (freqs : List Float) (center : Float) (orbit : SolvedOrbit) (rec : Vec3) (dts dfs df1s df2s : List Float) (n : ℕ) (w : Walk) (sum : Float)
+    → (n ≡ 0 → ⊥) → g ≡ passAt times center orbit rec dts dfs df1s df2s (w .at) (w .passes) → sum ≡ squaresOf times freqs g (w .at) (w .at + n) (w .sum)
+    → record { sum = sum; at = w .at + n; passes = w .passes + 1 } ≡ walkPass times freqs center orbit rec dts dfs df1s df2s n w
+walks g times freqs center orbit rec dts dfs df1s df2s zero w sum h e s = absurd (h refl)
+walks g times freqs center orbit rec dts dfs df1s df2s (suc n) w sum h e s =
+    ap (λ (v : Float). record { sum = v; at = w .at + suc n; passes = w .passes + 1 })
+    (s ∙ ap (λ (q : Pass). squaresOf times freqs q (w .at) (w .at + suc n) (w .sum)) e)
+
+pub walks-none : (times : List ℤ) (freqs : List Float) (center : Float) (orbit : SolvedOrbit) (rec : Vec3) (dts dfs df1s df2s : List Float) (n : ℕ) (w : Walk) → n ≡ 0
+    → w ≡ walkPass times freqs center orbit rec dts dfs df1s df2s n w
+walks-none times freqs center orbit rec dts dfs df1s df2s n w h = sym (ap (λ (m : ℕ). walkPass times freqs center orbit rec dts dfs df1s df2s m w) h)
+
+pub same-pass : (times : List ℤ) (center : Float) (orbit : SolvedOrbit) (rec : Vec3) (dts dfs df1s df2s : List Float) (at q : ℕ) {dt d0 d1 d2 : Float} {since : Moment}
+    → dt ≡ getD dts q nan → d0 ≡ getD dfs q nan → d1 ≡ getD df1s q nan → d2 ≡ getD df2s q nan → since ≡ sampleMoment times at
+    → _≡_ {A = Pass} (record { dt = dt; df = record { 0 = d0; 1 = d1; 2 = d2 }; since = since; «center_freq» = center; orbit = orbit; «rec_ecef» = rec })
+    (passAt times center orbit rec dts dfs df1s df2s at q)
+same-pass times center orbit rec dts dfs df1s df2s at q a b d e m =
+    λ j. record { dt = a j; df = record { 0 = b j; 1 = d j; 2 = e j }; since = m j; «center_freq» = center; orbit = orbit; «rec_ecef» = rec }
+
+pub wider : (a n : ℕ) → Fits w32 n → a + n ≤ a + 4294967295
+wider a n h = omega (arith, h .fits)
+
+-- ---- the mean
+
+module _ (counts : List ℕ) (times : List ℤ) (freqs centers : List Float) (rec : Vec3) (orbit : SolvedOrbit) (dts dfs df1s df2s : List Float) where
+  pub many-passes : 16 < length counts → nan ≡ rmsOf counts times freqs centers rec orbit dts dfs df1s df2s
+  unfolding rmsOf
+  many-passes h = simp (lt-ltb 16 (length counts) h)
+
+  pub few-centers : length counts ≤ 16 → (length centers ≡ length counts → ⊥) → nan ≡ rmsOf counts times freqs centers rec orbit dts dfs df1s df2s
+  unfolding rmsOf
+  few-centers h k = simp (le-ltb 16 (length counts) h, ne-eqb (length centers) (length counts) k)
+
+  whole : length counts ≤ 16 → length centers ≡ length counts
+      → rmsOf counts times freqs centers rec orbit dts dfs df1s df2s
+      ≡ meanRoot (for 0 (length counts) (withPass times freqs (centerOf counts centers) orbit rec dts dfs df1s df2s counts) opening)
+  unfolding rmsOf
+  whole h k = simp (le-ltb 16 (length counts) h, eq-eqb (length centers) (length counts) k)
+
+  pub mean : {center n r : Float} {w : Walk} → length counts ≤ 16 → length centers ≡ length counts → center ≡ centerOf counts centers
+      → w ≡ for 0 (length counts) (withPass times freqs center orbit rec dts dfs df1s df2s counts) opening → n ≡ ofInt binary64 (pos (w .at)) → r ≡ sqrtOf (w .sum ⊘ n)
+      → r ≡ rmsOf counts times freqs centers rec orbit dts dfs df1s df2s
+  mean {w = w} h k c e s g =
+      g ∙ ap (λ (m : Float). sqrtOf (w .sum ⊘ m)) s ∙ ap meanRoot e
+      ∙ ap (λ (v : Float). meanRoot (for 0 (length counts) (withPass times freqs v orbit rec dts dfs df1s df2s counts) opening)) c
+      ∙ sym (whole h k)

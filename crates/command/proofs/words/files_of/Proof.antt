@@ -1,0 +1,21 @@
+-- `files_of` meets its contract. Assumes nothing.
+use borrow.Author.Needs.{needs}
+use borrow.Author.Tests.{lt-ltb, le-ltb}
+use Rattle.command.specs.Words.{filesOf}
+use Rattle.command.proofs.words.files_of.Statement.{statement}
+use Rattle.command.proofs.words.files_of.Tie as tie
+
+returns : tie.Need-returns
+unfolding filesOf
+returns c = simp (lt-ltb _ _ (c .if1 .taken))
+
+returns-2 : tie.Need-returns-2
+unfolding filesOf
+returns-2 c = simp (le-ltb _ _ (c .before .if1 .left), lt-ltb _ _ (c .if2 .taken))
+
+returns-3 : tie.Need-returns-3
+unfolding filesOf
+returns-3 c = simp (le-ltb _ _ (c .before .if1 .left), le-ltb _ _ (c .if2 .left))
+
+pub files-of-spec : {M : Type 1} → statement M
+files-of-spec = tie.close (tie.spec returns returns-2 (λ c. search needs) returns-3)

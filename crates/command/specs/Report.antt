@@ -1,0 +1,94 @@
+-- The numbers of the report: how far the samples lie from what the returned orbit and biases predict.
+use Prim.Native.Nat.{ℕ, zero, suc, _+_}
+use mathlib.Core.Bool.{cond, not, _||_}
+use mathlib.Core.List.{List}
+use lib.Dec.{ltb, eqb}
+use lib.IntN.{ℤ, pos}
+use lib.ListN.{length, getD}
+use lib.Ieee.{Float, nan, binary64, ofInt, toUnsigned}
+use Rattle.float.specs.Ops.{_⊕_, _⊖_, _⊗_, _⊘_, bits, absOf, roundOf}
+use Rattle.roots.specs.Root.{sqrtOf}
+use Rattle.loops.specs.Loop.{for}
+use Rattle.moment.specs.Sample.{timeInRange, momentAt}
+use Rattle.moment.specs.declared.Moment.{Moment}
+use Rattle.frame.specs.declared.Vec3.{Vec3}
+use Rattle.orbit.specs.Doppler.{predictFrequencyPolyOf}
+use Rattle.orbit.specs.declared.doppler.Prediction.{Prediction}
+use Rattle.orbit.specs.declared.doppler.Prediction.the-variants.{Frequency, Refused}
+use Rattle.arguments.specs.Passes.{centerOf}
+use Rattle.solution.specs.declared.SolvedOrbit.{SolvedOrbit}
+use Rattle.command.specs.declared.report.Pass.{Pass}
+use Rattle.command.specs.declared.report.Walk.{Walk}
+
+-- a moment that no prediction takes
+abbrev pub noMoment : Moment
+noMoment = record { seconds = pos 0; nanos = 1000000000 }
+
+-- a sample's moment; an accepted fit has no time out of range
+unfoldable pub momentIn : ℤ → Moment
+momentIn t = cond (timeInRange t) (momentAt t) noMoment
+
+-- sample k's
+unfoldable pub sampleMoment : List ℤ → ℕ → Moment
+sampleMoment times k = cond (ltb k (length times)) (momentIn (getD times k (pos 0))) noMoment
+
+abbrev pub frequencyOf : Prediction → Float
+frequencyOf (Frequency v) = v
+frequencyOf (Refused k) = nan
+
+-- a sample's frequency less centre and predicted shift
+unfoldable pub residualOf : Pass → Moment → Float → Float
+residualOf g m f =
+    let o = g .orbit in
+    f ⊖ (g .«center_freq» ⊕ frequencyOf (predictFrequencyPolyOf (o .a) (o .i) (o .raan0) (o .u0) (o .epoch) m (g .dt) (g .df) (g .since) (g .«center_freq») (g .«rec_ecef»)))
+
+-- the squares of the residuals from sample `at` up to `end`, added in order
+module _ (times : List ℤ) (freqs : List Float) where
+  unfoldable pub squareOf : Pass → ℕ → Float → Float
+  squareOf g k sum = let r = residualOf g (sampleMoment times k) (getD freqs k nan) in sum ⊕ r ⊗ r
+
+  unfoldable pub squaresOf : Pass → ℕ → ℕ → Float → Float
+  squaresOf g at end sum = for at end (squareOf g) sum
+
+-- a pass of n samples more: the biases are those of the next non-empty pass
+abbrev pub passAt : List ℤ → Float → SolvedOrbit → Vec3 → List Float → List Float → List Float → List Float → ℕ → ℕ → Pass
+passAt times center orbit rec dts dfs df1s df2s at q =
+    record {
+      dt = getD dts q nan;
+      df = record { 0 = getD dfs q nan; 1 = getD df1s q nan; 2 = getD df2s q nan };
+      since = sampleMoment times at;
+      «center_freq» = center;
+      orbit = orbit;
+      «rec_ecef» = rec;
+    }
+
+module _ (times : List ℤ) (freqs : List Float) (center : Float) (orbit : SolvedOrbit) (rec : Vec3) (dts dfs df1s df2s : List Float) where
+  abbrev pub walkPass : ℕ → Walk → Walk
+  walkPass zero w = w
+  walkPass (suc n) w =
+      record {
+        sum = squaresOf times freqs (passAt times center orbit rec dts dfs df1s df2s (w .at) (w .passes)) (w .at) (w .at + suc n) (w .sum);
+        at = w .at + suc n;
+        passes = w .passes + 1;
+      }
+
+  abbrev pub withPass : List ℕ → ℕ → Walk → Walk
+  withPass counts p w = walkPass (getD counts p 0) w
+
+-- before the first pass
+abbrev pub opening : Walk
+opening = record { sum = bits 0; at = 0; passes = 0 }
+
+-- the root of the squares' mean
+abbrev pub meanRoot : Walk → Float
+meanRoot w = sqrtOf (w .sum ⊘ ofInt binary64 (pos (w .at)))
+
+-- over all passes, with the first non-empty pass's centre, as the fit takes it
+unfoldable pub rmsOf : List ℕ → List ℤ → List Float → List Float → Vec3 → SolvedOrbit → List Float → List Float → List Float → List Float → Float
+rmsOf counts times freqs centers rec orbit dts dfs df1s df2s =
+    cond (ltb 16 (length counts) || not (eqb (length centers) (length counts))) nan
+    (meanRoot (for 0 (length counts) (withPass times freqs (centerOf counts centers) orbit rec dts dfs df1s df2s counts) opening))
+
+-- the size of v in parts of 1/per, to the nearest
+unfoldable pub unitsOf : Float → Float → ℕ
+unitsOf v per = toUnsigned 64 (roundOf (absOf v ⊗ per))

@@ -1,0 +1,41 @@
+-- What the command's words say.
+use Prim.Native.Nat.{ℕ, _-_}
+use mathlib.Core.Bool.{cond}
+use mathlib.Core.List.{List}
+use lib.Dec.{ltb}
+use lib.Ieee.{Float}
+use Rattle.float.specs.Ops.{radiansOf}
+use Rattle.decimal.specs.Read.{number}
+use Rattle.decimal.specs.declared.read.Number.{Number}
+use Rattle.decimal.specs.declared.read.Number.the-variants.{Nothing, Value, Refused}
+use Rattle.command.specs.declared.words.Files.{Files}
+use Rattle.command.specs.declared.words.Files.the-variants.{TooFew, TooMany, Named}
+use Rattle.command.specs.declared.words.Mast.{Mast}
+use Rattle.command.specs.declared.words.Mast.the-variants.{At, NoNumber, LongNumber}
+
+-- the program's name and four numbers, then 1 to 16 files
+unfoldable pub filesOf : ℕ → Files
+filesOf n = cond (ltb n 6) TooFew (cond (ltb 21 n) TooMany (Named (n - 5)))
+
+-- what follows from word k, if it is a number
+abbrev pub taken : ℕ → Number → (Float → Mast) → Mast
+taken k Nothing next = NoNumber k
+taken k (Value v) next = next v
+taken k Refused next = LongNumber k
+
+-- the inclination is in degrees
+abbrev pub inclinationOf : Float → Float → Float → Number → Mast
+inclinationOf x y z i = taken 4 i (λ v. At (record { x = x; y = y; z = z }) (radiansOf v))
+
+abbrev pub zOf : Float → Float → Number → Number → Mast
+zOf x y z i = taken 3 z (λ v. inclinationOf x y v i)
+
+abbrev pub yOf : Float → Number → Number → Number → Mast
+yOf x y z i = taken 2 y (λ v. zOf x v z i)
+
+abbrev pub xOf : Number → Number → Number → Number → Mast
+xOf x y z i = taken 1 x (λ v. yOf v y z i)
+
+-- of four words; the first that is wrong answers
+unfoldable pub mastOf : List ℕ → List ℕ → List ℕ → List ℕ → Mast
+mastOf x y z i = xOf (number x) (number y) (number z) (number i)

@@ -1,0 +1,212 @@
+// The numbers of the report.
+ghost use mathlib.Core.Path.{_≡_};
+ghost use Prim.Native.Nat.{_+_, _≤_};
+ghost use lib.ListN.{getD};
+ghost use lib.Ieee.{nan};
+ghost use Rattle.command.specs.Report.{momentIn, sampleMoment, frequencyOf, residualOf, squareOf, squaresOf, walkPass, rmsOf, unitsOf};
+use frame::Vec3;
+use moment::Moment;
+use orbit::doppler;
+use orbit::doppler::DfPoly;
+use orbit::doppler::Prediction;
+use solution::SolvedOrbit;
+
+// What the samples of a pass share: biases, the first sample's moment, the fit's centre frequency and orbit, and the mast.
+pub struct Pass {
+    pub dt: f64,
+    pub df: DfPoly,
+    pub since: Moment,
+    pub center_freq: f64,
+    pub orbit: SolvedOrbit,
+    pub rec_ecef: Vec3,
+}
+
+// What a walk over the passes has come to: the squares added, the next sample, and the number of non-empty passes.
+pub struct Walk {
+    pub sum: f64,
+    pub at: usize,
+    pub passes: usize,
+}
+
+fn number_at(l: &[f64], k: usize) -> f64
+    ensures { λ r. ⌜ r ≡ getD (now (l .entry)) k nan ⌝ }
+{
+    if k < l.len() {
+        return l[k];
+    }
+    0.0 / 0.0
+}
+
+// A sample's moment; of a time out of range, one that no prediction takes.
+fn moment_in(t: i64) -> Moment
+    ensures { λ r. ⌜ r ≡ momentIn t ⌝ }
+{
+    if moment::sample::in_range(t) {
+        return moment::sample::to_moment(t);
+    }
+    Moment {
+        seconds: 0,
+        nanos: 1000000000,
+    }
+}
+
+// Sample k's moment; past the last sample, one that no prediction takes.
+fn moment_at(times: &[i64], k: usize) -> Moment
+    ensures { λ r. ⌜ r ≡ sampleMoment (now (times .entry)) k ⌝ }
+{
+    if k < times.len() {
+        return moment_in(times[k]);
+    }
+    Moment {
+        seconds: 0,
+        nanos: 1000000000,
+    }
+}
+
+fn frequency(p: Prediction) -> f64
+    ensures { λ r. ⌜ r ≡ frequencyOf p ⌝ }
+{
+    match p {
+        Prediction::Frequency(v) => v,
+        Prediction::Refused(_) => 0.0 / 0.0,
+    }
+}
+
+fn residual(g: Pass, m: Moment, f: f64) -> f64
+    ensures { λ r. ⌜ r ≡ residualOf g m f ⌝ }
+{
+    let o = g.orbit;
+    let epoch = o.epoch;
+    let df = g.df;
+    let since = g.since;
+    let rec = g.rec_ecef;
+    let center = g.center_freq;
+    let p = doppler::predict_frequency_poly(
+        o.a,
+        o.i,
+        o.raan0,
+        o.u0,
+        epoch,
+        m,
+        g.dt,
+        df,
+        since,
+        center,
+        rec,
+    );
+    f - (center + frequency(p))
+}
+
+// The square of a sample's residual added.
+fn square(times: &[i64], freqs: &[f64], g: Pass, k: usize, sum: f64) -> f64
+    ensures { λ r. ⌜ r ≡ squareOf (now (times .entry)) (now (freqs .entry)) g k sum ⌝ }
+{
+    let r = residual(g, moment_at(times, k), number_at(freqs, k));
+    sum + r * r
+}
+
+fn squares(times: &[i64], freqs: &[f64], g: Pass, at: usize, end: usize, sum: f64) -> f64
+    ensures { λ r. ⌜ r ≡ squaresOf (now (times .entry)) (now (freqs .entry)) g at end sum ⌝ }
+{
+    let mut s = sum;
+    for k in at..end {
+        s = square(times, freqs, g, k, s);
+    }
+    s
+}
+
+// One pass more; an empty one has no biases.
+fn walk_pass(
+    times: &[i64],
+    freqs: &[f64],
+    center_freq: f64,
+    orbit: SolvedOrbit,
+    rec_ecef: Vec3,
+    dts: &[f64],
+    dfs: &[f64],
+    df1s: &[f64],
+    df2s: &[f64],
+    n: u32,
+    w: Walk,
+) -> Walk
+    requires { ⌜ (w .at ≤ 68719476720) × (w .passes ≤ 16) ⌝ }
+    ensures { λ r. ⌜ (r ≡ walkPass (now (times .entry)) (now (freqs .entry)) «center_freq» orbit «rec_ecef» (now (dts .entry)) (now (dfs .entry)) (now (df1s .entry)) (now (df2s .entry)) n w) × (r .at ≤ w .at + 4294967295) × (r .passes ≤ w .passes + 1) ⌝ }
+{
+    if n == 0 {
+        return w;
+    }
+    let q = w.passes;
+    let at = w.at;
+    let df = DfPoly(number_at(dfs, q), number_at(df1s, q), number_at(df2s, q));
+    let since = moment_at(times, at);
+    let dt = number_at(dts, q);
+    let g = Pass {
+        dt,
+        df,
+        since,
+        center_freq,
+        orbit,
+        rec_ecef,
+    };
+    let end = at + n as usize;
+    let sum = squares(times, freqs, g, at, end, w.sum);
+    Walk {
+        sum,
+        at: end,
+        passes: q + 1,
+    }
+}
+
+// The root of the mean square of all samples' residuals, in Hz, for an orbit and its biases, of which each non-empty pass has four.
+// NaN where there are over 16 passes, no centre for each, or no sample.
+pub fn rms(
+    counts: &[u32],
+    times: &[i64],
+    freqs: &[f64],
+    centers: &[f64],
+    rec_ecef: Vec3,
+    orbit: SolvedOrbit,
+    dts: &[f64],
+    dfs: &[f64],
+    df1s: &[f64],
+    df2s: &[f64],
+) -> f64
+    ensures { λ r. ⌜ r ≡ rmsOf (now (counts .entry)) (now (times .entry)) (now (freqs .entry)) (now (centers .entry)) «rec_ecef» orbit (now (dts .entry)) (now (dfs .entry)) (now (df1s .entry)) (now (df2s .entry)) ⌝ }
+{
+    if 16 < counts.len() {
+        return 0.0 / 0.0;
+    }
+    if centers.len() != counts.len() {
+        return 0.0 / 0.0;
+    }
+    let center = arguments::first_center(counts, centers);
+    let mut w = Walk {
+        sum: 0.0,
+        at: 0,
+        passes: 0,
+    };
+    for p in 0..counts.len() {
+        w = walk_pass(
+            times,
+            freqs,
+            center,
+            orbit,
+            rec_ecef,
+            dts,
+            dfs,
+            df1s,
+            df2s,
+            counts[p],
+            w,
+        );
+    }
+    let n = w.at;
+    roots::sqrt(w.sum / std::num::nearest_u64_to_f64(n as u64))
+}
+
+// The size of v in parts of 1/per, to the nearest, for printing.
+pub fn units(v: f64, per: f64) -> u64
+    ensures { λ r. ⌜ r ≡ unitsOf v per ⌝ }
+{
+    float::cast::saturating_f64_to_u64(float::round(float::abs(v) * per))
+}
