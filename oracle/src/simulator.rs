@@ -15,17 +15,20 @@ pub struct Case {
     pub kind: &'static str,
 }
 
-struct Truth {
-    a: f64,
-    i: f64,
+/// The orbit behind a set, counted in seconds from a start.
+pub struct Truth {
+    pub a: f64,
+    pub i: f64,
     raan: f64,
     u: f64,
     turn: f64,
+    /// Seconds since 1970.
+    pub start: i64,
 }
 
 impl Truth {
     /// Earth-fixed position at s seconds from the start.
-    fn position(&self, s: f64) -> [f64; 3] {
+    pub fn position(&self, s: f64) -> [f64; 3] {
         let n = (3.986e14 / (self.a * self.a * self.a)).sqrt();
         let drift = -1.5 * 1.0826e-3 * (6378137.0 / self.a) * (6378137.0 / self.a) * n * self.i.cos();
         let (u, o) = (self.u + n * s, self.raan + (drift - 7.2921e-5) * s - self.turn);
@@ -50,17 +53,23 @@ impl Truth {
 
 /// `passes` passes with `samples` samples in all.
 pub fn realistic(seed: u64, passes: usize, samples: usize) -> Case {
+    known(seed, passes, samples).0
+}
+
+/// The same with the orbit that it came from.
+pub fn known(seed: u64, passes: usize, samples: usize) -> (Case, Truth) {
     let mut r = Random::new(seed);
     let lat = r.between(-1.1, 1.1);
     let lon = r.between(-3.14, 3.14);
     let size = 6371e3 + r.between(0.0, 2000.0);
     let receiver = [size * lat.cos() * lon.cos(), size * lat.cos() * lon.sin(), size * lat.sin()];
-    let truth = Truth {
+    let mut truth = Truth {
         a: r.between(6778e3, 7878e3),
         i: r.between(lat.abs().max(0.6), 1.8),
         raan: r.between(0.0, 6.28),
         u: r.between(0.0, 6.28),
         turn: r.between(0.0, 6.28),
+        start: 0,
     };
     let center = if r.one_in(3) { r.between(1e8, 5e8).round() } else { 150800000.0 };
     let start = if r.one_in(8) {
@@ -68,6 +77,7 @@ pub fn realistic(seed: u64, passes: usize, samples: usize) -> Case {
     } else {
         1735689600 + r.below(86400 * 730) as i64
     };
+    truth.start = start;
     let mut starts: Vec<(f64, f64)> = Vec::new();
     for threshold in [0.17, 0.0, -0.5, -1.0] {
         starts.clear();
@@ -114,7 +124,8 @@ pub fn realistic(seed: u64, passes: usize, samples: usize) -> Case {
         set.counts.push(n as u32);
         set.centers.push(center);
     }
-    Case { set, receiver, a: 7000e3, i: (truth.i + r.between(-0.05, 0.05)).clamp(0.0, 3.14), kind: "realistic" }
+    let i = (truth.i + r.between(-0.05, 0.05)).clamp(0.0, 3.14);
+    (Case { set, receiver, a: 7000e3, i, kind: "realistic" }, truth)
 }
 
 /// Where pass p starts in the arrays.
