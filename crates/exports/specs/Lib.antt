@@ -1,9 +1,9 @@
 pub mod Answers
 pub mod Draws
 pub mod Elements
+pub mod Files
 pub mod Fits
 pub mod Maps
-pub mod Files
 pub mod Refinements
 pub mod Sets
 pub mod Sums
