@@ -277,7 +277,10 @@ pub fn padic(a: u64, b: u64, p: u64) -> Answer<f64> {
 }
 
 pub fn history(x: &[f64]) -> Answer<Vec<f64>> {
-    lent(x.len(), |out| unsafe { wisvalom_compute_fractional_difference_history(x.as_ptr(), x.len(), out, x.len()) })
+    let call = |out: *mut f64, room: usize| unsafe { wisvalom_compute_fractional_difference_history(x.as_ptr(), x.len(), out, room) };
+    let got = lent(x.len(), |out| call(out, x.len()))?;
+    short(x.len(), PATTERN, call);
+    Ok(got)
 }
 
 pub fn normal(v: [f64; 3]) -> Vec<f64> {
