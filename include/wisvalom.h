@@ -13,6 +13,28 @@
 #include <stddef.h>
 #include <stdint.h>
 
+/* The memory that calls need, in elements: the most, and what so many samples in so many non-empty passes need. Nothing is allocated.
+ * Beside what is lent, a fit takes less than 370 KiB of stack. */
+#define WISVALOM_MAX_PASSES 16
+#define WISVALOM_MAX_SAMPLES 4096
+#define WISVALOM_MAX_TRIALS 150
+#define WISVALOM_MAX_SCRATCH 305936 /* doubles: the scratch of 4,096 samples in 16 passes */
+#define WISVALOM_MAX_STORED 65604   /* bytes: a stored set of that size */
+#define WISVALOM_MAX_TEXT 165       /* bytes: three lines under a name of 24 bytes */
+
+static inline size_t wisvalom_scratch_size(size_t samples, size_t passes)
+{
+    return (samples + 3 * passes) * (5 + 4 * passes) + 20000;
+}
+static inline size_t wisvalom_stored_size(size_t samples, size_t passes)
+{
+    return 4 + 4 * passes + 16 * samples;
+}
+static inline size_t wisvalom_text_size(size_t name)
+{
+    return name + 141;
+}
+
 #ifdef __cplusplus
 extern "C" {
 #endif
