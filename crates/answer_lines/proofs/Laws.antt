@@ -13,7 +13,7 @@ use mir.Syntax.{w64}
 use mir.Val.{SFits, toZ, ofZ}
 use mir.ValLaws.{toZ-ofZ, ofZ-toZ}
 use borrow.Author.Tests.{eq-eqb, ne-eqb, eqb-true, eqb-false, lt-ltb, le-ltb}
-use Rattle.answer_lines.specs.Lines.{placeOf, beginsWith, askedOf, answerOf, fieldsFrom, fieldAt, every, sameList, Filled}
+use Rattle.answer_lines.specs.Lines.{placeOf, beginsWith, askedOf, answerOf, fieldsFrom, afterList, fieldAt, every, sameList, Filled}
 
 here : {A : Type 0} (l : List A) (i : ℕ) (d : A) → i < length l → drop i l ≡ getD l i d ∷ drop (i + 1) l
 here l i d h = let e : suc i ≡ i + 1 = omega arith in drop-cons l i d h ∙ ap (λ (k : ℕ). getD l i d ∷ drop k l) e
@@ -120,6 +120,13 @@ past-is l k h = rest l (length l) ∙ drop-length l ∙ sym (drop-of-length-le l
   where
     long : (n k : ℕ) → n / 17 < k → n ≤ 17 * k
     long n k h = omega arith
+
+pub past-list : (l : List ℕ) (n : ℕ) → n ≡ fieldAt l 0 → length l < n → take (length l - length l) (drop (length l) l) ≡ afterList l
+unfolding afterList
+past-list l n e h = past-is l (1 + n) (over (length l) n h) ∙ ap (λ (k : ℕ). fieldsFrom (1 + k) l) e
+  where
+    over : (m n : ℕ) → m < n → m / 17 < 1 + n
+    over m n h = omega arith
 
 -- ---- a list that is filled from its first place on: the first i places have what f says
 

@@ -8,7 +8,7 @@ use lib.ListN.{length, getD, take, drop}
 use lib.IntN.{ℤ}
 use lib.Ieee.{Float, binary64, ofBits, toBits}
 use mir.Syntax.{w64}
-use mir.Val.{ofZ}
+use mir.Val.{ofZ, toZ}
 use Rattle.replay.specs.Word.{wordAt}
 
 -- how many bytes stand before the first b: all, where there is none
@@ -38,8 +38,20 @@ fieldsFrom k fields = drop (17 * k) fields
 unfoldable pub fieldAt : List ℕ → ℕ → ℕ
 fieldAt fields k = wordAt (fieldsFrom k fields) 1
 
+-- the fields after the list at the first field: how many, and then each
+unfoldable pub afterList : List ℕ → List ℕ
+afterList fields = fieldsFrom (1 + fieldAt fields 0) fields
+
 unfoldable pub floatAt : List ℕ → ℕ → Float
 floatAt fields k = ofBits binary64 (fieldAt fields k)
+
+-- the last 32 bits of field k
+unfoldable pub countAt : List ℕ → ℕ → ℕ
+countAt fields k = fieldAt fields k % 4294967296
+
+-- the number whose two's complement is field k
+unfoldable pub signedAt : List ℕ → ℕ → ℤ
+signedAt fields k = toZ w64 (fieldAt fields k)
 
 -- byte i of bytes that lie eight to a field, the first in the highest digits
 unfoldable pub byteAt : List ℕ → ℕ → ℕ

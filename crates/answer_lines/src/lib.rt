@@ -4,9 +4,10 @@ ghost use mathlib.Core.Path.{_≡_};
 ghost use Prim.Native.Nat.{_+_, _%_, _≤_};
 ghost use lib.ListN.{length, take, drop};
 ghost use lib.Ieee.{nan};
+ghost use lib.IntN.{pos};
 ghost use mir.Syntax.{w64};
 ghost use mir.Val.{ofZ};
-ghost use Rattle.answer_lines.specs.Lines.{placeOf, beginsWith, askedOf, answerOf, fieldsFrom, fieldAt, floatAt, byteAt, byteItems, countItems, signedItems, floatItems, sameBytes, sameCounts, sameSigned, sameFloats, Filled};
+ghost use Rattle.answer_lines.specs.Lines.{placeOf, beginsWith, askedOf, answerOf, fieldsFrom, afterList, fieldAt, floatAt, countAt, signedAt, byteAt, byteItems, countItems, signedItems, floatItems, sameBytes, sameCounts, sameSigned, sameFloats, Filled};
 use moment::Moment;
 
 // How many bytes stand before the first `byte`: all, where there is none.
@@ -86,6 +87,18 @@ pub fn field(fields: &[u8], k: usize) -> u64
     replay::word(from(fields, k), 1)
 }
 
+// The fields after the list that begins at the first field.
+pub fn after_list(fields: &[u8]) -> &[u8]
+    ensures { λ r. ⌜ now r ≡ afterList (now (fields .entry)) ⌝ }
+{
+    let n = field(fields, 0);
+    let most = fields.len();
+    if (most as u64) < n {
+        return &fields[most..];
+    }
+    from(fields, 1 + n as usize)
+}
+
 pub fn float(fields: &[u8], k: usize) -> f64
     ensures { λ r. ⌜ r ≡ floatAt (now (fields .entry)) k ⌝ }
 {
@@ -113,6 +126,13 @@ pub fn moment(fields: &[u8]) -> Moment
     }
 }
 
+// The last 32 bits of field k.
+fn count(fields: &[u8], k: usize) -> u32
+    ensures { λ r. ⌜ r ≡ countAt (now (fields .entry)) k ⌝ }
+{
+    (field(fields, k) % 4294967296) as u32
+}
+
 // Byte i of bytes that lie eight to a field.
 fn byte(fields: &[u8], i: usize) -> u8
     ensures { λ r. ⌜ r ≡ byteAt (now (fields .entry)) i ⌝ }
@@ -138,6 +158,24 @@ pub fn floats(fields: &[u8], out: &mut [f64])
     }
 }
 
+// As many counts as out has places.
+pub fn counts(fields: &[u8], out: &mut [u32])
+    ensures { λ _. ⌜ Filled (countAt (now (fields .entry))) 0 (now (out .exit)) ⌝ }
+{
+    for i in 0usize..out.len() {
+        out[i] = count(fields, i);
+    }
+}
+
+// As many times as out has places.
+pub fn times(fields: &[u8], out: &mut [i64])
+    ensures { λ _. ⌜ Filled (signedAt (now (fields .entry))) (pos 0) (now (out .exit)) ⌝ }
+{
+    for i in 0usize..out.len() {
+        out[i] = signed(fields, i);
+    }
+}
+
 // The first n, or all where they are fewer.
 pub fn first_bytes(x: &[u8], n: u64) -> &[u8]
     ensures { λ r. ⌜ now r ≡ take n (now (x .entry)) ⌝ }
@@ -149,6 +187,24 @@ pub fn first_bytes(x: &[u8], n: u64) -> &[u8]
 }
 
 pub fn first_floats(x: &[f64], n: u64) -> &[f64]
+    ensures { λ r. ⌜ now r ≡ take n (now (x .entry)) ⌝ }
+{
+    if (x.len() as u64) < n {
+        return x;
+    }
+    &x[..n as usize]
+}
+
+pub fn first_counts(x: &[u32], n: u64) -> &[u32]
+    ensures { λ r. ⌜ now r ≡ take n (now (x .entry)) ⌝ }
+{
+    if (x.len() as u64) < n {
+        return x;
+    }
+    &x[..n as usize]
+}
+
+pub fn first_times(x: &[i64], n: u64) -> &[i64]
     ensures { λ r. ⌜ now r ≡ take n (now (x .entry)) ⌝ }
 {
     if (x.len() as u64) < n {

@@ -36,15 +36,6 @@ fn same_list(fields: &[u8], x: &[f64]) -> bool {
     untouched(x, n)
 }
 
-// The fields after a list.
-fn after_list(fields: &[u8]) -> &[u8] {
-    let n = answer_lines::field(fields, 0);
-    if 4096 < n {
-        return &fields[..0];
-    }
-    answer_lines::from(fields, 1 + n as usize)
-}
-
 fn same_epoch(fields: &[u8], t: Moment) -> bool {
     let said = answer_lines::moment(fields);
     said.seconds == t.seconds && said.nanos == t.nanos
@@ -90,23 +81,23 @@ fn same_outputs(
     if !same_list(fields, log) {
         return false;
     }
-    let a = after_list(fields);
+    let a = answer_lines::after_list(fields);
     if !same_list(a, dts) {
         return false;
     }
-    let b = after_list(a);
+    let b = answer_lines::after_list(a);
     if !same_list(b, dfs) {
         return false;
     }
-    let c = after_list(b);
+    let c = answer_lines::after_list(b);
     if !same_list(c, df1s) {
         return false;
     }
-    let d = after_list(c);
+    let d = answer_lines::after_list(c);
     if !same_list(d, df2s) {
         return false;
     }
-    same_lines(after_list(d), lines, text)
+    same_lines(answer_lines::after_list(d), lines, text)
 }
 
 // A fit of the stored bytes; the fields after them are: centres, receiver, initial a and i, name.
@@ -114,7 +105,7 @@ fn fits(bytes: &[u8], fields: &[u8], answer: &[u8]) -> bool {
     let mut centers = [0.0; 16];
     answer_lines::floats(answer_lines::from(fields, 1), &mut centers);
     let given = answer_lines::first_floats(&centers, answer_lines::field(fields, 0));
-    let rest = answer_lines::from(fields, 1 + given.len());
+    let rest = answer_lines::after_list(fields);
     let mut letters = [0u8; 64];
     let last = answer_lines::from(rest, 5);
     answer_lines::bytes(answer_lines::from(last, 1), &mut letters);
