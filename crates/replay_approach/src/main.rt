@@ -1,185 +1,225 @@
-// Replays stored answers of the original: closest moments, sums of squares, their gradients, and whole searches. Each line of standard
-// input is asked again. Writes how many lines there were, and how many were answered otherwise or not known.
-use answer_sets::Set;
+// Asks stored answers of the original again: closest moments, sums of squares, their gradients, and whole searches. `oracle/store` makes
+// the list.
+ghost use Prim.Native.Nat.{_≤_};
+use frame::Vec3;
 
-// The closest moments into the first places of out, or the number of a refusal.
-fn pcas(line: &[u8], s: Set, out: &mut [i64]) -> u32 {
-    let all_counts = s.counts;
-    let all_times = s.times;
-    let all_freqs = s.freqs;
-    let all_centers = s.centers;
-    let counts = answer_sets::first_counts(&all_counts, s.passes);
-    let times = answer_sets::first_times(&all_times, s.time_count);
-    let freqs = answer_sets::first_floats(&all_freqs, s.freq_count);
-    let centers = answer_sets::first_floats(&all_centers, s.center_count);
-    approach::get_pred_pca_times(
-        answer_sets::float_at(line, 3, 0, 0),
-        answer_sets::float_at(line, 3, 0, 1),
-        answer_sets::float_at(line, 3, 0, 2),
-        answer_sets::float_at(line, 3, 0, 3),
-        answer_sets::moment_at(line, 3, 0, 4),
-        answer_sets::vec3_at(line, 3, 0, 6),
-        counts,
-        times,
-        freqs,
-        centers,
-        out,
-    )
+// Room for a set; a larger one is cut.
+const PASSES: usize = 20;
+
+const SAMPLES: usize = 64;
+
+fn place(fields: &[u8]) -> Vec3 {
+    Vec3 {
+        x: answer_lines::float(fields, 0),
+        y: answer_lines::float(fields, 1),
+        z: answer_lines::float(fields, 2),
+    }
 }
 
-fn pca_same(line: &[u8]) -> bool {
-    let s = answer_sets::set_at(line, 3, 9);
-    let mut out = [0i64; answer_sets::PASSES];
-    let refusal = pcas(line, s, &mut out);
-    if answer_sets::word_answer(line, 3, s.end, 0) != refusal as u64 {
+// Whether the answer is this refusal, or 0 and these floats.
+fn same(answer: &[u8], refusal: u32, values: &[f64]) -> bool {
+    if answer_lines::field(answer, 0) != refusal as u64 {
         return false;
     }
     if refusal != 0 {
         return true;
     }
-    if answer_sets::word_answer(line, 3, s.end, 1) != s.passes as u64 {
-        return false;
-    }
-    answer_sets::times_are(answer_sets::first_times(&out, s.passes), line, 3, s.end, 2)
+    answer_lines::floats_are(answer_lines::from(answer, 1), values)
 }
 
-fn rss_same(line: &[u8]) -> bool {
-    let s = answer_sets::set_at(line, 3, 0);
-    let counts = s.counts;
-    let times = s.times;
-    let freqs = s.freqs;
-    let centers = s.centers;
-    let end = s.end;
-    let fields = std::num::wrapping_add_usize(end, 10);
+// The fields before the set are: elements, epoch, receiver.
+fn pca(
+    counts: &[u32],
+    times: &[i64],
+    freqs: &[f64],
+    centers: &[f64],
+    fields: &[u8],
+    answer: &[u8],
+) -> bool {
+    let mut out = [0i64; PASSES];
+    let refusal = approach::get_pred_pca_times(
+        answer_lines::float(fields, 0),
+        answer_lines::float(fields, 1),
+        answer_lines::float(fields, 2),
+        answer_lines::float(fields, 3),
+        answer_lines::moment(answer_lines::from(fields, 4)),
+        place(answer_lines::from(fields, 6)),
+        counts,
+        times,
+        freqs,
+        centers,
+        &mut out,
+    );
+    if !same(answer, refusal, &[]) {
+        return false;
+    }
+    if refusal != 0 {
+        return true;
+    }
+    answer_lines::same_signed(answer_lines::from(answer, 1), counts.len(), &out)
+}
+
+// The fields after the set are: receiver, elements, epoch, centre.
+fn rss(
+    counts: &[u32],
+    times: &[i64],
+    freqs: &[f64],
+    centers: &[f64],
+    fields: &[u8],
+    answer: &[u8],
+) -> bool {
     let r = approach::compute_rss(
-        answer_sets::first_counts(&counts, s.passes),
-        answer_sets::first_times(&times, s.time_count),
-        answer_sets::first_floats(&freqs, s.freq_count),
-        answer_sets::first_floats(&centers, s.center_count),
-        answer_sets::vec3_at(line, 3, end, 0),
-        answer_sets::float_at(line, 3, end, 3),
-        answer_sets::float_at(line, 3, end, 4),
-        answer_sets::moment_at(line, 3, end, 7),
-        answer_sets::float_at(line, 3, end, 9),
-        answer_sets::float_at(line, 3, end, 5),
-        answer_sets::float_at(line, 3, end, 6),
+        counts,
+        times,
+        freqs,
+        centers,
+        place(fields),
+        answer_lines::float(fields, 3),
+        answer_lines::float(fields, 4),
+        answer_lines::moment(answer_lines::from(fields, 7)),
+        answer_lines::float(fields, 9),
+        answer_lines::float(fields, 5),
+        answer_lines::float(fields, 6),
     );
-    if answer_sets::word_answer(line, 3, fields, 0) != r.refusal as u64 {
-        return false;
-    }
-    if r.refusal != 0 {
-        return true;
-    }
-    answer_sets::float_is(r.rss, line, 3, fields, 1)
+    same(answer, r.refusal, &[r.rss])
 }
 
-fn grad_same(line: &[u8]) -> bool {
-    let s = answer_sets::set_at(line, 4, 0);
-    let counts = s.counts;
-    let times = s.times;
-    let freqs = s.freqs;
-    let centers = s.centers;
-    let end = s.end;
-    let fields = std::num::wrapping_add_usize(end, 10);
+fn grad(
+    counts: &[u32],
+    times: &[i64],
+    freqs: &[f64],
+    centers: &[f64],
+    fields: &[u8],
+    answer: &[u8],
+) -> bool {
     let r = approach::compute_gradient(
-        answer_sets::first_counts(&counts, s.passes),
-        answer_sets::first_times(&times, s.time_count),
-        answer_sets::first_floats(&freqs, s.freq_count),
-        answer_sets::first_floats(&centers, s.center_count),
-        answer_sets::vec3_at(line, 4, end, 0),
-        answer_sets::float_at(line, 4, end, 3),
-        answer_sets::float_at(line, 4, end, 4),
-        answer_sets::moment_at(line, 4, end, 7),
-        answer_sets::float_at(line, 4, end, 9),
-        answer_sets::float_at(line, 4, end, 5),
-        answer_sets::float_at(line, 4, end, 6),
+        counts,
+        times,
+        freqs,
+        centers,
+        place(fields),
+        answer_lines::float(fields, 3),
+        answer_lines::float(fields, 4),
+        answer_lines::moment(answer_lines::from(fields, 7)),
+        answer_lines::float(fields, 9),
+        answer_lines::float(fields, 5),
+        answer_lines::float(fields, 6),
     );
-    if answer_sets::word_answer(line, 4, fields, 0) != r.refusal as u64 {
-        return false;
-    }
-    if r.refusal != 0 {
-        return true;
-    }
     let g = r.gradient;
-    let answers = [g.grad_a, g.grad_i, g.grad_raan, g.grad_u0];
-    answer_sets::floats_are(&answers, line, 4, fields, 1)
+    same(
+        answer,
+        r.refusal,
+        &[g.grad_a, g.grad_i, g.grad_raan, g.grad_u0],
+    )
 }
 
-fn search_same(line: &[u8]) -> bool {
-    let s = answer_sets::set_at(line, 6, 0);
-    let counts = s.counts;
-    let times = s.times;
-    let freqs = s.freqs;
-    let centers = s.centers;
-    let end = s.end;
-    let fields = std::num::wrapping_add_usize(end, 5);
-    let mut table = [0.0; 48032];
+// The fields after the set are: receiver, a, i.
+fn search(
+    counts: &[u32],
+    times: &[i64],
+    freqs: &[f64],
+    centers: &[f64],
+    fields: &[u8],
+    answer: &[u8],
+) -> bool {
+    let mut table = [0.0; search_call::TABLE];
     let r = search_call::search_starts(
-        answer_sets::first_counts(&counts, s.passes),
-        answer_sets::first_times(&times, s.time_count),
-        answer_sets::first_floats(&freqs, s.freq_count),
-        answer_sets::first_floats(&centers, s.center_count),
-        answer_sets::vec3_at(line, 6, end, 0),
-        answer_sets::float_at(line, 6, end, 3),
-        answer_sets::float_at(line, 6, end, 4),
+        counts,
+        times,
+        freqs,
+        centers,
+        place(fields),
+        answer_lines::float(fields, 3),
+        answer_lines::float(fields, 4),
         &mut table,
     );
-    if answer_sets::word_answer(line, 6, fields, 0) != r.refusal as u64 {
-        return false;
-    }
-    if r.refusal != 0 {
-        return true;
-    }
-    let answers = [r.raan0, r.u0, r.rss];
-    answer_sets::floats_are(&answers, line, 6, fields, 1)
+    same(answer, r.refusal, &[r.raan0, r.u0, r.rss])
 }
 
-fn answered(line: &[u8]) -> bool {
-    if line_fields::is_kind(line, b"pca") {
-        return pca_same(line);
+// The line asked with its set; `rest` are the fields after it.
+fn asked(
+    line: &[u8],
+    counts: &[u32],
+    times: &[i64],
+    freqs: &[f64],
+    centers: &[f64],
+    rest: &[u8],
+) -> bool {
+    let answer = answer_lines::answer(line);
+    if answer_lines::begins_with(line, b"pca ") {
+        let fields = answer_lines::asked(line);
+        return pca(counts, times, freqs, centers, fields, answer);
     }
-    if line_fields::is_kind(line, b"rss") {
-        return rss_same(line);
+    if answer_lines::begins_with(line, b"rss ") {
+        return rss(counts, times, freqs, centers, rest, answer);
     }
-    if line_fields::is_kind(line, b"grad") {
-        return grad_same(line);
+    if answer_lines::begins_with(line, b"grad ") {
+        return grad(counts, times, freqs, centers, rest, answer);
     }
-    if line_fields::is_kind(line, b"search") {
-        return search_same(line);
+    if answer_lines::begins_with(line, b"search ") {
+        return search(counts, times, freqs, centers, rest, answer);
     }
     false
 }
 
-struct Tally {
-    lines: u64,
-    other: u64,
+// The same, the set being at the first of these fields.
+fn asked_at(line: &[u8], set: &[u8]) -> bool {
+    let mut counts = [0u32; PASSES];
+    let mut centers = [0.0; PASSES];
+    let mut times = [0i64; SAMPLES];
+    let mut freqs = [0.0; SAMPLES];
+    let at_centers = answer_lines::after_list(set);
+    let at_times = answer_lines::after_list(at_centers);
+    let at_freqs = answer_lines::after_list(at_times);
+    answer_lines::counts(answer_lines::from(set, 1), &mut counts);
+    answer_lines::floats(answer_lines::from(at_centers, 1), &mut centers);
+    answer_lines::times(answer_lines::from(at_times, 1), &mut times);
+    answer_lines::floats(answer_lines::from(at_freqs, 1), &mut freqs);
+    asked(
+        line,
+        answer_lines::first_counts(&counts, answer_lines::field(set, 0)),
+        answer_lines::first_times(&times, answer_lines::field(at_times, 0)),
+        answer_lines::first_floats(&freqs, answer_lines::field(at_freqs, 0)),
+        answer_lines::first_floats(&centers, answer_lines::field(at_centers, 0)),
+        answer_lines::after_list(at_freqs),
+    )
 }
 
-fn replayed(text: &[u8]) -> Tally {
-    let mut at = 0usize;
-    let mut lines = 0u64;
-    let mut other = 0u64;
-    while at < text.len() {
-        let end = line_fields::line_end(text, at);
-        lines = std::num::wrapping_add_u64(lines, 1);
-        if !answered(&text[at..end]) {
-            other = std::num::wrapping_add_u64(other, 1);
-        }
-        if end < text.len() {
-            at = end + 1;
-        } else {
-            at = end;
-        }
+fn agrees(line: &[u8]) -> bool {
+    let fields = answer_lines::asked(line);
+    if answer_lines::begins_with(line, b"pca ") {
+        return asked_at(line, answer_lines::from(fields, 9));
     }
-    Tally { lines, other }
+    asked_at(line, fields)
+}
+
+// 0 where the line agrees, else 1, and writes it.
+fn differs(line: &[u8]) -> u64
+    ensures { λ r. ⌜ r ≤ 1 ⌝ }
+{
+    if agrees(line) {
+        return 0;
+    }
+    replay::show(line);
+    replay::show(b"\n");
+    1
+}
+
+fn compare(text: &[u8]) {
+    let mut lines = 0u64;
+    let mut differed = 0u64;
+    let mut at = 0usize;
+    while at < text.len() {
+        let end = answer_lines::line_end(text, at);
+        lines += 1;
+        differed += differs(&text[at..end]);
+        at = end + 1;
+    }
+    replay::report(lines - differed, differed);
 }
 
 fn main() {
     let mut text = [0u8; 524288];
     let n = io::read_full(0, &mut text);
-    let t = replayed(&text[..n]);
-    io::print_decimal(1, t.lines);
-    io::write_all(1, b" lines, ");
-    io::print_decimal(1, t.other);
-    io::write_all(1, b" answered otherwise\n");
+    compare(&text[..n]);
 }
