@@ -7,6 +7,7 @@
 //! median and from the tenth to the ninetieth hundredth.
 use common::Moment;
 use common::numbers::Random;
+use std::cell::RefCell;
 use std::hint::black_box;
 
 #[allow(unused_imports)]
@@ -69,11 +70,25 @@ fn bench(name: &str, rounds: usize, calls: usize, runs: [Run; 3]) {
     );
 }
 
-fn floats<'a>(inputs: &'a [f64], f: impl Fn(f64) -> f64 + 'a) -> Run<'a> {
+/// The results of all calls, each kept in a place of its own. Were they passed through one place, a call could be made to wait for
+/// the result of the one before.
+fn kept<'a, I: Iterator>(calls: impl Fn() -> I + 'a) -> Run<'a>
+where
+    I::Item: 'a,
+{
+    let results = RefCell::new(vec![]);
     Box::new(move || {
-        for &v in inputs {
-            black_box(f(black_box(v)));
-        }
+        let mut results = results.borrow_mut();
+        results.clear();
+        results.extend(calls());
+        black_box(&mut *results);
+    })
+}
+
+fn floats(inputs: &[f64], f: fn(f64) -> f64) -> Run<'_> {
+    kept(move || {
+        let f = black_box(f);
+        inputs.iter().map(move |&v| f(v))
     })
 }
 
@@ -257,11 +272,7 @@ fn main() {
         .collect();
     macro_rules! over {
         ($f:expr) => {
-            Box::new(|| {
-                for s in &samples {
-                    black_box($f(black_box(s)));
-                }
-            }) as Run
+            kept(|| samples.iter().map($f))
         };
     }
     // The originals take chrono's moments: made before the clock starts.
@@ -270,11 +281,7 @@ fn main() {
         samples.iter().map(|s| (published::judge::time(s.epoch), published::judge::time(s.t))).collect();
     macro_rules! timed {
         ($times:ident, $f:expr) => {
-            Box::new(|| {
-                for (s, t) in samples.iter().zip(&$times) {
-                    black_box($f(black_box(s), black_box(t)));
-                }
-            }) as Run
+            kept(|| samples.iter().zip(&$times).map(|(s, t)| $f(s, t)))
         };
     }
     bench("`datetime_to_jd`", rounds, n, [
