@@ -6,7 +6,8 @@ use lib.Ieee.{nan, inf, round, sub, neg, lt, eq}
 use Rattle.float.specs.Constant.{decimal}
 use Rattle.float.specs.Ops.{absOf}
 use Rattle.loops.specs.Loop.{for, turns}
-use Rattle.approach.specs.Pca.{largest, nearerOf, obsPcaAt}
+use Rattle.float.specs.Ops.{largest}
+use Rattle.approach.specs.Pca.{nearerOf, obsPcaAt}
 
 -- 103, 99, 101, NaN, 98 against 100: of 99 and 101 the first
 first-least : obsPcaAt (decimal 103 0 ∷ decimal 99 0 ∷ decimal 101 0 ∷ nan ∷ decimal 98 0 ∷ []) (decimal 100 0) ≡ 1

@@ -1,14 +1,13 @@
 -- The moment of closest approach of one pass, as the reference searches it.
-use mathlib.Core.Path.{_≡_, refl}
-use mathlib.Core.Bool.{cond, false}
+use mathlib.Core.Bool.{cond}
 use mathlib.Core.List.{List}
-use Prim.Native.Nat.{ℕ, _+_, _-_, _*_, _^_}
+use Prim.Native.Nat.{ℕ, _+_, _-_, _*_}
 use lib.Dec.{eqb}
 use lib.IntN.{ℤ, pos}
 use lib.ListN.{length, getD, set}
-use lib.Ieee.{Float, nan, fin, lt, ofBits}
+use lib.Ieee.{Float, nan, lt}
 use Rattle.loops.specs.Loop.{for}
-use Rattle.float.specs.Ops.{_⊖_, bits, absOf}
+use Rattle.float.specs.Ops.{_⊖_, absOf, largest}
 use Rattle.moment.specs.declared.Instant.{Instant}
 use Rattle.moment.specs.Time.{nanosOf, tauOf}
 use Rattle.moment.specs.Sample.{instantAt, sinceOf}
@@ -21,14 +20,6 @@ use Rattle.orbit.specs.Orbit.{ecefAt}
 use Rattle.orbit.specs.Doppler.{dotOf}
 use Rattle.approach.specs.declared.Nearest.{Nearest}
 use Rattle.approach.specs.declared.Closest.{Closest}
-
--- f64::MAX: (2^53 − 1)×2^971
-unfoldable pub largest : Float
-largest = fin false (2 ^ 53 - 1) (pos 971)
-
-pub largest-bits : bits 0x7fefffffffffffff ≡ largest
-unfolding largest ofBits
-largest-bits = refl
 
 -- ---- the observed closest sample: the first of least |frequency − centre|; where none is below f64::MAX, the first of all
 

@@ -34,7 +34,7 @@ fn obs_pca_at(freqs: &[f64], center: f64) -> usize
     ensures { λ r. ⌜ (r ≡ obsPcaAt (now (freqs .entry)) center) × (r < length (now (freqs .entry))) ⌝ }
 {
     let mut s = Nearest {
-        offset: 1.7976931348623157e308,
+        offset: float::MAX,
         at: 0,
     };
     for k in 0..freqs.len() {
@@ -140,7 +140,7 @@ fn closest(
     let nanos = t.nanos;
     let base = t.secs - crate::turns::REACH;
     let s = Closest {
-        dist: 1.7976931348623157e308,
+        dist: float::MAX,
         secs: t.secs,
     };
     let coarse = search_around(e, k, epoch, rec, table, at, base, nanos, 600, 20, 61, s);

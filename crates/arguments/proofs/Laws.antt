@@ -13,6 +13,7 @@ use borrow.Author.Tests.{eqb-true, eqb-false, leb-true, ltb-false}
 use Rattle.refusal.specs.Numbers as refusal
 use Rattle.refusal.specs.Order.{Refusal, first, _if_}
 use Rattle.float.specs.Ops.{bits}
+use Rattle.float.specs.Trig.{pi}
 use Rattle.frame.specs.declared.Vec3.{Vec3}
 use Rattle.moment.specs.Sample.{timesInRange}
 use Rattle.moment.proofs.Samples.{timed}
@@ -22,7 +23,6 @@ use Rattle.arguments.specs.Passes.{nonEmpty}
 use Rattle.arguments.specs.Refusals.{
   leastA,
   mostA,
-  pi,
   nanArgument,
   outOfRange,
   anyNan,

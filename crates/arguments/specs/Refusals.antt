@@ -11,12 +11,13 @@ use Rattle.refusal.specs.Numbers as refusal
 use Rattle.refusal.specs.Order.{Refusal, first, _if_}
 use Rattle.float.specs.Constant.{decimal}
 use Rattle.float.specs.Ops.{bits}
+use Rattle.float.specs.Trig.{pi}
 use Rattle.moment.specs.Sample.{timesInRange, Timed}
 use Rattle.frame.specs.declared.Vec3.{Vec3}
 use Rattle.pass_set.specs.PassSet.{sizesAgree, Sizes}
 use Rattle.arguments.specs.Passes.{nonEmpty}
 
--- 6000 km, 50000 km and π
+-- 6000 km and 50000 km
 unfoldable pub leastA : Float
 leastA = decimal 6000000 0
 
@@ -30,13 +31,6 @@ mostA = decimal 50000000 0
 pub mostA-bits : bits 0x4187d78400000000 ≡ mostA
 unfolding mostA ofBits round
 mostA-bits = refl
-
-unfoldable pub pi : Float
-pi = decimal 3141592653589793 15
-
-pub pi-bits : bits 0x400921fb54442d18 ≡ pi
-unfolding pi ofBits round
-pi-bits = refl
 
 unfoldable pub nanArgument : Vec3 → Float → Float → Bool
 nanArgument rec a i = isNan (rec .x) || (isNan (rec .y) || (isNan (rec .z) || (isNan a || isNan i)))

@@ -79,7 +79,7 @@ fn out_of_range(a: f64, i: f64) -> bool
     if i < 0.0 {
         return true;
     }
-    i > 3.141592653589793
+    i > float::PI
 }
 
 fn any_nan(freqs: &[f64]) -> bool

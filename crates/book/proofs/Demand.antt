@@ -12,7 +12,8 @@ use lib.ListN.{length, length-append}
 use lib.Ieee.{Float, lt, isNan, round}
 use Rattle.float.proofs.Order.{not-nan}
 use Rattle.normal.specs.Step.{Outcome, next, singular, far}
-use Rattle.book.specs.Book.{largest, Search, After, keep, leave, judged, moveBy, whileRunning, move, followed, Book, opening, noted, trial, turn, book}
+use Rattle.float.specs.Ops.{largest}
+use Rattle.book.specs.Book.{Search, After, keep, leave, judged, moveBy, whileRunning, move, followed, Book, opening, noted, trial, turn, book}
 use Rattle.book.specs.declared.Ending.{Ending}
 use Rattle.book.specs.declared.Ending.the-variants.{Running, TooFar, Short, Damped, NoPivot, Converged}
 use Rattle.book.specs.Demand.{largestSum, All, Falling, Tried}

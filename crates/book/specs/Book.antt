@@ -3,25 +3,16 @@
 -- sum (none is refusal 23), and `step` what follows a trial with this damping and set; `enough` says that there are as many
 -- residuals as parameters.
 use mathlib.Core.Path.{_≡_, refl}
-use mathlib.Core.Bool.{Bool, false, cond}
+use mathlib.Core.Bool.{Bool, cond}
 use mathlib.Core.List.{List, [], _∷_, _++_}
 use mathlib.Core.Option.{Option, none, some}
-use Prim.Native.Nat.{ℕ, zero, suc, _+_, _-_, _^_}
-use lib.IntN.{pos}
-use lib.Ieee.{Float, fin, lt, ofBits, round}
+use Prim.Native.Nat.{ℕ, zero, suc, _+_}
+use lib.Ieee.{Float, lt, ofBits, round}
 use Rattle.float.specs.Constant.{decimal}
-use Rattle.float.specs.Ops.{_⊗_, _⊘_, one, bits}
+use Rattle.float.specs.Ops.{_⊗_, _⊘_, one, bits, largest}
 use Rattle.normal.specs.Step.{Outcome, next, singular, far}
 use Rattle.book.specs.declared.Ending.{Ending}
 use Rattle.book.specs.declared.Ending.the-variants.{Running, TooFar, Short, Damped, NoPivot, Converged}
-
--- the largest f64
-unfoldable pub largest : Float
-largest = fin false (2 ^ 53 - 1) (pos 971)
-
-pub largest-bits : bits 0x7fefffffffffffff ≡ largest
-unfolding largest ofBits
-largest-bits = refl
 
 unfoldable pub ten : Float
 ten = decimal 10 0

@@ -7,8 +7,8 @@ use Prim.Native.Nat.{ℕ, _≤_}
 use lib.ListN.{length}
 use lib.Ieee.{Float, lt, le, ofBits, round}
 use Rattle.float.specs.Constant.{decimal}
-use Rattle.float.specs.Ops.{bits}
-use Rattle.book.specs.Book.{largest, Book}
+use Rattle.float.specs.Ops.{bits, largest}
+use Rattle.book.specs.Book.{Book}
 
 -- 1e11
 unfoldable pub largestSum : Float

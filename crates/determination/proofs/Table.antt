@@ -17,7 +17,8 @@ use Rattle.monna.specs.Digits.{monnaOf, inverseOf, distanceOf, digits, placed, 
 use Rattle.monna.specs.Answers.{baseRefusal, digitsRefusal, monnaMapOf, pAdicDistanceOf, inverseMonnaMapOf}
 use Rattle.monna.specs.History.{differencesOf, differenceAt, cellOf, quotientOf, leastDistance, table}
 use Rattle.arguments.specs.Passes.{nonEmpty}
-use Rattle.arguments.specs.Refusals.{leastA, mostA, pi, nanArgument, outOfRange, anyNan, scratchSize, enough}
+use Rattle.float.specs.Trig.{pi}
+use Rattle.arguments.specs.Refusals.{leastA, mostA, nanArgument, outOfRange, anyNan, scratchSize, enough}
 use Rattle.fit.specs.Answer.{refusalOf}
 use Rattle.tle.specs.Lines.{sumOf, checksumOf}
 use Rattle.determination.specs.Table as document

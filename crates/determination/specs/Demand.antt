@@ -6,11 +6,11 @@ use mathlib.Core.Option.{Option, none, some}
 use Prim.Native.Nat.{ℕ, zero, suc, _+_, _≤_}
 use lib.ListN.{length, take, drop}
 use lib.Ieee.{Float, lt, le}
+use Rattle.float.specs.Ops.{largest}
 use Rattle.moment.specs.Time.{secondsOf}
 use Rattle.moment.specs.declared.Moment.{Moment}
 use Rattle.residuals.specs.Residuals.{at, penalisedSum}
 use Rattle.residuals.specs.declared.Station.{Station}
-use Rattle.book.specs.Book.{largest}
 use Rattle.book.specs.Demand.{largestSum, Falling}
 use Rattle.solution.specs.declared.SolvedOrbit.{SolvedOrbit}
 use Rattle.fit.specs.Fit.{Observations, stationOf, passes}

@@ -1,9 +1,10 @@
 -- f64 arithmetic (IEEE 754, binary64) under short names, one rounding per operation, and document 01's 'Arithmetic the platform leaves open'.
 use lib.Ieee as Ieee
+use lib.IntN.{pos}
 use lib.Ieee.{Float, nan, inf, fin, binary64, up, down, neg, lt, isNan, round, ofBits}
 use mathlib.Core.Path.{_≡_, refl}
 use mathlib.Core.Bool.{true, false, _||_, cond}
-use Prim.Native.Nat.{ℕ, zero, suc, _+_, _-_, _*_, _/_}
+use Prim.Native.Nat.{ℕ, zero, suc, _+_, _-_, _*_, _/_, _^_}
 use Rattle.float.specs.Constant.{decimal}
 
 infixl 6 _⊕_
@@ -121,3 +122,11 @@ raised v (suc k) acc = raised v k (acc ⊗ v)
 
 unfoldable pub powerOf : Float → ℕ → Float
 powerOf v k = raised v k one
+
+-- f64::MAX, (2^53 − 1)×2^971
+unfoldable pub largest : Float
+largest = fin false (2 ^ 53 - 1) (pos 971)
+
+pub largest-bits : bits 0x7fefffffffffffff ≡ largest
+unfolding largest ofBits
+largest-bits = refl

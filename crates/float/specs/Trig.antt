@@ -9,6 +9,15 @@ use Prim.Native.Nat.{ℕ, zero, suc, _+_, _-_, _*_, _%_}
 use Rattle.float.specs.Constant.{decimal, fraction}
 use Rattle.float.specs.Ops.{_⊕_, _⊖_, _⊗_, _⊘_, _⊛_, bits, one, wholeOf, roundOf}
 
+-- π
+unfoldable pub pi : Float
+pi = decimal 3141592653589793 15
+
+pub pi-bits : bits 0x400921fb54442d18 ≡ pi
+unfolding pi ofBits Ieee.round
+pi-bits = refl
+
+-- 2π
 unfoldable pub full : Float
 full = decimal 6283185307179586 15
 

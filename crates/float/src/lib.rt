@@ -10,6 +10,11 @@ ghost use lib.IntN.{pos};
 ghost use lib.Ieee.{binary64, ofInt, toUnsigned};
 ghost use Rattle.float.specs.Ops.{maxOf, minOf, absOf, signumOf, remEuclidOf, degreesOf, radiansOf, floorOf, roundOf, powerOf, two, _⊗_};
 
+// The nearest to π, and the largest.
+pub const PI: f64 = 3.141592653589793;
+
+pub const MAX: f64 = 1.7976931348623157e308;
+
 pub fn max(v: f64, w: f64) -> f64
     ensures { λ r. ⌜ r ≡ maxOf v w ⌝ }
 {

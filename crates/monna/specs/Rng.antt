@@ -7,7 +7,7 @@ use lib.Ieee.{Float, binary64, ofInt, neg, ofBits, round}
 use Rattle.float.specs.Constant.{decimal, fraction}
 use Rattle.float.specs.Ops.{_⊗_, _⊘_, bits, two, maxOf}
 use Rattle.float.specs.Log.{lnOf}
-use Rattle.float.specs.Trig.{cosOf}
+use Rattle.float.specs.Trig.{pi, cosOf}
 use Rattle.roots.specs.Root.{sqrtOf}
 use Rattle.monna.specs.declared.rng.SimpleRng.{SimpleRng}
 use Rattle.monna.specs.declared.rng.Draw.{Draw}
@@ -41,13 +41,6 @@ leastUniform = decimal 1 15
 pub leastUniform-bits : bits 0x3cd203af9ee75616 ≡ leastUniform
 unfolding leastUniform ofBits round
 leastUniform-bits = refl
-
-unfoldable pub pi : Float
-pi = decimal 3141592653589793 15
-
-pub pi-bits : bits 0x400921fb54442d18 ≡ pi
-unfolding pi ofBits round
-pi-bits = refl
 
 -- √(−2 ln u₁) cos(2π u₂), with u₁ held to 1e-15
 unfoldable pub boxMuller : Float → Float → Float

@@ -45,7 +45,7 @@ impl SimpleRng {
         let u1 = float::max(first.value, 1e-15);
         let second = first.rng.next_f64();
         let r = roots::sqrt(-2.0 * float::log::ln(u1));
-        let theta = 2.0 * 3.141592653589793 * second.value;
+        let theta = 2.0 * float::PI * second.value;
         let rng = second.rng;
         Draw {
             value: r * float::trig::cos(theta),

@@ -9,6 +9,8 @@ use lib.ListN.{set, replicate}
 use lib.Ieee.{Float, lt, ofBits, round}
 use Rattle.float.specs.Constant.{decimal}
 use Rattle.float.specs.Ops.{_⊕_, _⊖_, _⊗_, _⊘_, bits, one, maxOf, minOf, absOf}
+use Rattle.float.specs.Trig.{pi}
+use Rattle.solution.specs.Range.{leastRadius, mostRadius}
 use Rattle.loops.specs.Loop.{for}
 use Rattle.linear.specs.Elimination.{at, solutionOf}
 use Rattle.roots.specs.Root.{sqrtOf}
@@ -61,32 +63,11 @@ subtractAt delta k x = set x k (at x k ⊖ at delta k)
 unfoldable pub subtracted : ℕ → List Float → List Float → List Float
 subtracted n delta x = for 0 n (subtractAt delta) x
 
-unfoldable pub leastA : Float
-leastA = decimal 6500000 0
-
-pub leastA-bits : bits 0x4158cba800000000 ≡ leastA
-unfolding leastA ofBits round
-leastA-bits = refl
-
-unfoldable pub mostA : Float
-mostA = decimal 20000000 0
-
-pub mostA-bits : bits 0x417312d000000000 ≡ mostA
-unfolding mostA ofBits round
-mostA-bits = refl
-
-unfoldable pub pi : Float
-pi = decimal 3141592653589793 15
-
-pub pi-bits : bits 0x400921fb54442d18 ≡ pi
-unfolding pi ofBits round
-pi-bits = refl
-
 unfoldable pub heldTo : Float → Float → Float → Float
 heldTo least most v = minOf (maxOf v least) most
 
 unfoldable pub held : List Float → List Float
-held x = let y = set x 0 (heldTo leastA mostA (at x 0)) in set y 1 (heldTo (bits 0) pi (at y 1))
+held x = let y = set x 0 (heldTo leastRadius mostRadius (at x 0)) in set y 1 (heldTo (bits 0) pi (at y 1))
 
 -- the largest step relative to its parameter, of n, by max from 0 on: a NaN never counts
 unfoldable pub leastSize : Float

@@ -239,9 +239,9 @@ fn hold(x: &mut [f64])
     requires { ⌜ 2 ≤ length (now x) ⌝ }
     ensures { λ _. ⌜ now (x .exit) ≡ held (now (x .entry)) ⌝ }
 {
-    let a = hold_to(6500e3, 20000e3, x[0]);
+    let a = hold_to(solution::LEAST_A, solution::MOST_A, x[0]);
     x[0] = a;
-    let i = hold_to(0.0, 3.141592653589793, x[1]);
+    let i = hold_to(0.0, float::PI, x[1]);
     x[1] = i;
 }
 

@@ -4,9 +4,9 @@ use mathlib.Core.Path.{_≡_, refl}
 use mathlib.Core.Bool.{not, _&&_}
 use mathlib.Core.List.{[], _∷_}
 use Prim.Native.Nat.{ℕ, zero, suc}
-use lib.Ieee.{Float, neg}
+use lib.Ieee.{Float, neg, ofBits, round}
 use Rattle.float.specs.Constant.{decimal}
-use Rattle.float.specs.Ops.{_⊕_, _⊖_, _⊗_, _⊘_}
+use Rattle.float.specs.Ops.{_⊕_, _⊖_, _⊗_, _⊘_, bits}
 use Rattle.float.specs.Trig.{sinOf, cosOf}
 use Rattle.refusal.specs.Numbers as refusal
 use Rattle.refusal.specs.Order.{first, _if_}
@@ -25,6 +25,10 @@ use Rattle.orbit.specs.declared.Rates.{Rates}
 -- the Earth's gravity in m^3/s^2, its second zonal harmonic, and its radius in m
 abbrev pub mu : Float
 mu = decimal 398600441800000 0
+
+pub mu-bits : bits 0x42f6a8665bda5400 ≡ mu
+unfolding ofBits round
+mu-bits = refl
 
 abbrev pub j2 : Float
 j2 = decimal 10826263 10

@@ -11,7 +11,7 @@ use Rattle.float.proofs.Order.{clash, trans, not-nan, split}
 use Rattle.loops.specs.Loop.{for, turns}
 use Rattle.loops.proofs.Laws.{for-cut, for-ind}
 use Rattle.pass_set.specs.PassSet.{total}
-use Rattle.approach.specs.Pca.{largest}
+use Rattle.float.specs.Ops.{largest}
 use Rattle.search.specs.Search.{betterOf, nothing, offerOf, withStart, searchOf, bestOfRuns}
 use Rattle.search.specs.declared.Found.{Found}
 

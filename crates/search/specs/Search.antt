@@ -5,12 +5,11 @@ use Prim.Native.Nat.{ℕ, _+_, _*_, _/_, _%_}
 use lib.ListN.{replicate}
 use lib.Ieee.{Float, lt}
 use Rattle.float.specs.Constant.{decimal}
-use Rattle.float.specs.Ops.{_⊗_, bits, radiansOf}
+use Rattle.float.specs.Ops.{_⊗_, bits, radiansOf, largest}
 use Rattle.loops.specs.Loop.{for}
 use Rattle.monna.specs.Rng.{drawn}
 use Rattle.monna.specs.Digits.{num}
 use Rattle.monna.specs.declared.rng.SimpleRng.{SimpleRng}
-use Rattle.approach.specs.Pca.{largest}
 use Rattle.search.specs.Step.{keptOf, stepOf}
 use Rattle.search.specs.declared.Best.{Best}
 use Rattle.search.specs.declared.Trajectory.{Trajectory}

@@ -9,7 +9,8 @@ use lib.Ieee.{Float, toUnsigned, lt, ne, neg}
 use Rattle.float.specs.Constant.{decimal}
 use Rattle.float.specs.Ops.{_⊕_, _⊖_, _⊗_, _⊘_, bits, one, two, absOf, signumOf, remEuclidOf}
 use Rattle.loops.specs.Loop.{for}
-use Rattle.monna.specs.Rng.{pi, drawOf, gaussianOf}
+use Rattle.float.specs.Trig.{pi}
+use Rattle.monna.specs.Rng.{drawOf, gaussianOf}
 use Rattle.monna.specs.Digits.{num, monnaOf, inverseOf, raised}
 use Rattle.monna.specs.History.{differenceAt}
 use Rattle.approach.specs.Sums.{eps}

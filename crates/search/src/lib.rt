@@ -191,7 +191,7 @@ fn moved(angle: f64, sign: f64, lr: f64, noise_std: f64, gaussian: f64) -> f64
     ensures { λ r. ⌜ r ≡ movedOf angle sign lr «noise_std» gaussian ⌝ }
 {
     let step = -lr * sign * 0.2 + noise_std * gaussian * 0.05;
-    float::rem_euclid(angle + step, 2.0 * 3.141592653589793)
+    float::rem_euclid(angle + step, 2.0 * float::PI)
 }
 
 fn propose(w: Trajectory, s: Signs) -> Proposal
@@ -241,10 +241,10 @@ fn scrambled(angle: f64, p: u64, perturbation: u64) -> f64
     requires { ⌜ Base p ⌝ }
     ensures { λ r. ⌜ r ≡ scrambledOf angle p perturbation ⌝ }
 {
-    let val = monna::inner::inverse_value(angle / (2.0 * 3.141592653589793), p, 16);
+    let val = monna::inner::inverse_value(angle / (2.0 * float::PI), p, 16);
     let sum = std::num::wrapping_add_u64(val, perturbation);
     let x = monna::inner::monna_value(sum, p);
-    float::rem_euclid(x * 2.0 * 3.141592653589793, 2.0 * 3.141592653589793)
+    float::rem_euclid(x * 2.0 * float::PI, 2.0 * float::PI)
 }
 
 // The angles and their sum where that is below the best, else the best.
@@ -351,7 +351,7 @@ fn opening(raan0: f64, u0: f64, rng: SimpleRng) -> Trajectory
     let best = Best {
         raan0,
         u0,
-        rss: 1.7976931348623157e308,
+        rss: float::MAX,
     };
     let history = [0.0; 15];
     Trajectory {
@@ -469,7 +469,7 @@ pub fn search(
         start: 0,
         raan0: 0.0,
         u0: 0.0,
-        rss: 1.7976931348623157e308,
+        rss: float::MAX,
     };
     let end = first + count;
     for j in first..end {

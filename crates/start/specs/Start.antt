@@ -10,6 +10,8 @@ use Rattle.loops.specs.Loop.{for}
 use Rattle.roots.specs.Cube.{cbrtOf}
 use Rattle.float.specs.Constant.{decimal}
 use Rattle.float.specs.Ops.{_⊕_, _⊗_, _⊘_, bits, one, maxOf, minOf, roundOf}
+use Rattle.float.specs.Trig.{pi}
+use Rattle.solution.specs.Range.{leastRadius, mostRadius}
 use Rattle.moment.specs.declared.Instant.{Instant}
 use Rattle.moment.specs.Sample.{Timed}
 use Rattle.frame.specs.declared.Vec3.{Vec3}
@@ -18,7 +20,6 @@ use Rattle.orbit.specs.Orbit.{mu}
 use Rattle.pass_set.specs.PassSet.{Sizes, countOf, passOf}
 use Rattle.approach.specs.Pca.{obsPcaTime}
 use Rattle.approach.specs.Sums.{secondsFrom, dtOf}
-use Rattle.arguments.specs.Refusals.{pi}
 use Rattle.residuals.specs.Residuals.{placeOf}
 use Rattle.start.specs.declared.Periods.{Periods}
 
@@ -55,20 +56,6 @@ four = decimal 4 0
 pub four-bits : bits 0x4010000000000000 ≡ four
 unfolding four ofBits round
 four-bits = refl
-
-unfoldable pub leastRadius : Float
-leastRadius = decimal 6500000 0
-
-pub leastRadius-bits : bits 0x4158cba800000000 ≡ leastRadius
-unfolding leastRadius ofBits round
-leastRadius-bits = refl
-
-unfoldable pub mostRadius : Float
-mostRadius = decimal 20000000 0
-
-pub mostRadius-bits : bits 0x417312d000000000 ≡ mostRadius
-unfolding mostRadius ofBits round
-mostRadius-bits = refl
 
 unfoldable pub radiusOf : Float → Float
 radiusOf t = minOf (maxOf (cbrtOf (mu ⊗ t ⊗ t ⊘ (four ⊗ pi ⊗ pi))) leastRadius) mostRadius

@@ -63,8 +63,8 @@ fn mean_period(s: Periods) -> f64
 fn radius(t: f64) -> f64
     ensures { λ r. ⌜ r ≡ radiusOf t ⌝ }
 {
-    let a = roots::cube::cbrt(orbit::MU * t * t / (4.0 * 3.141592653589793 * 3.141592653589793));
-    float::min(float::max(a, 6500e3), 20000e3)
+    let a = roots::cube::cbrt(orbit::MU * t * t / (4.0 * float::PI * float::PI));
+    float::min(float::max(a, solution::LEAST_A), solution::MOST_A)
 }
 
 // The observed closest moment of pass p, whose samples begin at k.

@@ -6,7 +6,7 @@ use lib.Dec.{lit<, lit≤}
 use lib.IntN.{pos, negsuc}
 use lib.Ieee.{Float, nan, add, mul, div, rem, lt, round, ofInt, ofBits}
 use Rattle.float.specs.Ops.{_⊕_, bits, remEuclidOf, degreesOf, degreesPerRadian}
-use Rattle.float.specs.Trig.{full}
+use Rattle.float.specs.Trig.{full, pi}
 use Rattle.roots.specs.Root.{sqrtOf}
 use Rattle.decimal.specs.Fixed.{decimal, text, cellAt}
 use Rattle.moment.specs.Time.{secondsOf}
@@ -15,8 +15,9 @@ use Rattle.moment.specs.Calendar.{leap, monthLength, monthsLength, dateOf, ordi
 use Rattle.moment.specs.declared.Moment.{Moment}
 use Rattle.moment.specs.declared.calendar.Date.{Date}
 use Rattle.moment.proofs.Days.{from-march, from-january}
-use Rattle.tle.specs.Elements.{fullCircle, printedDegrees, mu, secondsPerDay, meanMotionOf, secondsPerHour, secondsPerMinute, nanosPerSecond, ofNat, dayFraction, epochAt, epochOf}
-use Rattle.tle.specs.Answer.{leastRadius, greatestRadius, halfTurn, angleFits, radiusFits, inclinationFits, orbitFits, visible, nameFits, refusalOf}
+use Rattle.tle.specs.Elements.{fullCircle, printedDegrees, secondsPerDay, meanMotionOf, secondsPerHour, secondsPerMinute, nanosPerSecond, ofNat, dayFraction, epochAt, epochOf}
+use Rattle.solution.specs.Range.{leastRadius, mostRadius}
+use Rattle.tle.specs.Answer.{angleFits, radiusFits, inclinationFits, orbitFits, visible, nameFits, refusalOf}
 use Rattle.tle.specs.Example.{epoch, orbit, first-line, second-line}
 use Rattle.tle.specs.Lines.{body1, body2, sumOf, checksumOf, closed, line1, line2}
 use Rattle.tle.specs.declared.elements.Epoch.{Epoch}
@@ -46,7 +47,7 @@ pub example-1 : line1 (epochOf epoch) ≡ first-line
 example-1 = ap line1 epoch-is ∙ example-day
 
 pub example-2 : line2 orbit ≡ second-line
-unfolding line2 closed body2 text cellAt checksumOf sumOf printedDegrees degreesOf degreesPerRadian fullCircle remEuclidOf meanMotionOf mu secondsPerDay full sqrtOf add mul div rem lt round ofBits
+unfolding line2 closed body2 text cellAt checksumOf sumOf printedDegrees degreesOf degreesPerRadian fullCircle remEuclidOf meanMotionOf secondsPerDay full sqrtOf add mul div rem lt round ofBits
 example-2 = refl
 
 -- ---- the first and the last moments of years: 001.00000000 in 1957, 366.00000000 in 2026 and 367.00000000 in 2056
@@ -109,5 +110,5 @@ refusals :
     ∷ refusalOf [] (record { a = nan; i = orbit .i; raan0 = orbit .raan0; u0 = orbit .u0; epoch = epoch }) 0
     ∷ refusalOf [] (record { a = orbit .a; i = orbit .i; raan0 = bits 0x7fac7b1f3cac7433; u0 = orbit .u0; epoch = epoch }) 141 ∷ []
     ≡ 0 ∷ 0 ∷ 11 ∷ 11 ∷ 21 ∷ 4 ∷ 11 ∷ 11 ∷ []
-unfolding refusalOf orbitFits radiusFits inclinationFits angleFits leastRadius greatestRadius halfTurn nameFits visible inRange secondsOf degreesOf degreesPerRadian mul lt round ofBits
+unfolding refusalOf orbitFits radiusFits inclinationFits angleFits leastRadius mostRadius pi nameFits visible inRange secondsOf degreesOf degreesPerRadian mul lt round ofBits
 refusals = refl

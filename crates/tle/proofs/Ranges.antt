@@ -20,8 +20,10 @@ use Rattle.roots.proofs.Whole.{isqrt-whole}
 use Rattle.decimal.specs.Fixed.{within, printable}
 use Rattle.decimal.proofs.Printable.{yes, between}
 use Rattle.decimal.proofs.Theorems.{decimal-le}
-use Rattle.tle.specs.Elements.{ofNat, fullCircle-bits, printedDegrees, mu-bits, secondsPerDay-bits, meanMotionOf, secondsPerHour-bits, secondsPerMinute-bits, nanosPerSecond-bits, dayFraction}
-use Rattle.tle.specs.Answer.{leastRadius, leastRadius-bits, greatestRadius, greatestRadius-bits, inside}
+use Rattle.tle.specs.Elements.{ofNat, fullCircle-bits, printedDegrees, secondsPerDay-bits, meanMotionOf, secondsPerHour-bits, secondsPerMinute-bits, nanosPerSecond-bits, dayFraction}
+use Rattle.orbit.specs.Orbit.{mu-bits}
+use Rattle.solution.specs.Range.{leastRadius, leastRadius-bits, mostRadius, mostRadius-bits}
+use Rattle.tle.specs.Answer.{inside}
 use Rattle.tle.proofs.Values.{lt-or-ge}
 
 -- ---- v is not below zero, and at most m
@@ -294,6 +296,6 @@ turns-up (fin false m e) w =
 motion-up : (a : Float) → T (isFinite a) → T (inside (bits 0x4158cba800000000) (bits 0x417312d000000000) a) → UpTo 54 (sqrtOf (bits 0x42f6a8665bda5400 ⊘ (a ⊗ a ⊗ a)) ⊗ bits 0x40f5180000000000 ⊘ bits 0x401921fb54442d18)
 motion-up a f t = up-to 54 _ (lit< tt) (turns-up _ (day-times _ (sqrt-up _ (quotient-up _ (cube-between a (orbit-between a f t))))))
 
-pub mean-motion-up : (a : Float) → T (isFinite a) → T (inside leastRadius greatestRadius a) → UpTo 54 (meanMotionOf a)
+pub mean-motion-up : (a : Float) → T (isFinite a) → T (inside leastRadius mostRadius a) → UpTo 54 (meanMotionOf a)
 unfolding meanMotionOf
-mean-motion-up a f t = simp (← mu-bits, ← secondsPerDay-bits, ← full-bits) (motion-up a f (simp (← leastRadius-bits, ← greatestRadius-bits) at t))
+mean-motion-up a f t = simp (← mu-bits, ← secondsPerDay-bits, ← full-bits) (motion-up a f (simp (← leastRadius-bits, ← mostRadius-bits) at t))

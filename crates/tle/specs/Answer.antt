@@ -1,45 +1,22 @@
 -- What `format_tle_catalog` answers and writes, for every input.
-use mathlib.Core.Path.{_≡_, refl}
+use mathlib.Core.Path.{_≡_}
 use mathlib.Core.Bool.{Bool, true, not, _&&_, _||_, cond}
 use mathlib.Core.List.{List, [], _∷_, _++_}
 use Prim.Native.Nat.{ℕ, _+_}
 use lib.Dec.{leb, ltb, eqb}
 use lib.ListN.{length, drop}
-use lib.Ieee.{Float, lt, ofBits, round}
+use lib.Ieee.{Float, lt}
 use Rattle.refusal.specs.Order.{_if_, first}
 use Rattle.refusal.specs.Numbers.{moment-range, unprintable, short-memory}
-use Rattle.float.specs.Constant.{decimal}
 use Rattle.float.specs.Ops.{bits, degreesOf}
-use Rattle.float.specs.Trig.{isFinite}
+use Rattle.float.specs.Trig.{pi, isFinite}
 use Rattle.moment.specs.Range.{taken}
 use Rattle.tle.specs.Lines.{catalogOf}
+use Rattle.solution.specs.Range.{leastRadius, mostRadius}
 use Rattle.solution.specs.declared.SolvedOrbit.{SolvedOrbit}
 use Rattle.tle.specs.declared.Catalog.{Catalog}
 
 -- ---- orbit and name: refusal 11
-
--- metres
-unfoldable pub leastRadius : Float
-leastRadius = decimal 6500000 0
-
-pub leastRadius-bits : bits 0x4158cba800000000 ≡ leastRadius
-unfolding leastRadius ofBits round
-leastRadius-bits = refl
-
-unfoldable pub greatestRadius : Float
-greatestRadius = decimal 20000000 0
-
-pub greatestRadius-bits : bits 0x417312d000000000 ≡ greatestRadius
-unfolding greatestRadius ofBits round
-greatestRadius-bits = refl
-
--- π
-unfoldable pub halfTurn : Float
-halfTurn = decimal 3141592653589793 15
-
-pub halfTurn-bits : bits 0x400921fb54442d18 ≡ halfTurn
-unfolding halfTurn ofBits round
-halfTurn-bits = refl
 
 -- v is from lo to hi, the ends included
 abbrev pub inside : Float → Float → Float → Bool
@@ -50,10 +27,10 @@ unfoldable pub angleFits : Float → Bool
 angleFits x = isFinite x && isFinite (degreesOf x)
 
 unfoldable pub radiusFits : Float → Bool
-radiusFits a = isFinite a && inside leastRadius greatestRadius a
+radiusFits a = isFinite a && inside leastRadius mostRadius a
 
 unfoldable pub inclinationFits : Float → Bool
-inclinationFits i = angleFits i && inside (bits 0) halfTurn i
+inclinationFits i = angleFits i && inside (bits 0) pi i
 
 unfoldable pub orbitFits : SolvedOrbit → Bool
 orbitFits o = radiusFits (o .a) && (inclinationFits (o .i) && (angleFits (o .raan0) && angleFits (o .u0)))

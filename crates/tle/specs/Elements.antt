@@ -11,6 +11,7 @@ use Rattle.roots.specs.Root.{sqrtOf}
 use Rattle.moment.specs.Time.{secondsOf}
 use Rattle.moment.specs.Calendar.{dateOf, ordinalOf}
 use Rattle.moment.specs.declared.Moment.{Moment}
+use Rattle.orbit.specs.Orbit.{mu}
 use Rattle.tle.specs.declared.elements.Epoch.{Epoch}
 
 -- ---- angles
@@ -27,14 +28,6 @@ unfoldable pub printedDegrees : Float → Float
 printedDegrees x = remEuclidOf (degreesOf x) fullCircle
 
 -- ---- revolutions a day
-
--- the Earth's gravity, m^3/s^2
-unfoldable pub mu : Float
-mu = decimal 398600441800000 0
-
-pub mu-bits : bits 0x42f6a8665bda5400 ≡ mu
-unfolding mu ofBits round
-mu-bits = refl
 
 unfoldable pub secondsPerDay : Float
 secondsPerDay = decimal 86400 0

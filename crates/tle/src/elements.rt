@@ -18,7 +18,7 @@ pub fn degrees(x: f64) -> f64
 pub fn mean_motion(a: f64) -> f64
     ensures { λ r. ⌜ r ≡ meanMotionOf a ⌝ }
 {
-    roots::sqrt(3.986004418e14 / (a * a * a)) * 86400.0 / 6.283185307179586
+    roots::sqrt(orbit::MU / (a * a * a)) * 86400.0 / 6.283185307179586
 }
 
 fn day_fraction(secs: u32, nanos: u32) -> f64
@@ -80,7 +80,7 @@ fn accepted_radius(a: f64) -> bool
     ensures { λ r. ⌜ r ≡ radiusFits a ⌝ }
 {
     if finite(a) {
-        return inside_of(6500e3, 20000e3, a);
+        return inside_of(solution::LEAST_A, solution::MOST_A, a);
     }
     false
 }
@@ -89,7 +89,7 @@ fn accepted_inclination(i: f64) -> bool
     ensures { λ r. ⌜ r ≡ inclinationFits i ⌝ }
 {
     if accepted_angle(i) {
-        return inside_of(0.0, 3.141592653589793, i);
+        return inside_of(0.0, float::PI, i);
     }
     false
 }

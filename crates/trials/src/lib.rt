@@ -62,7 +62,7 @@ fn open(start: [f64; PARAMS]) -> State
         params: start,
         best_params: start,
         damping: 1.0,
-        best: 1.7976931348623157e308,
+        best: float::MAX,
         ended: Ending::Running,
     }
 }

@@ -1,5 +1,6 @@
 -- `out_of_range` meets its contract. Assumes nothing.
-use Rattle.arguments.specs.Refusals.{outOfRange, leastA-bits, mostA-bits, pi-bits}
+use Rattle.float.specs.Trig.{pi-bits}
+use Rattle.arguments.specs.Refusals.{outOfRange, leastA-bits, mostA-bits}
 use Rattle.arguments.proofs.out_of_range.Statement.{statement}
 use Rattle.arguments.proofs.out_of_range.Tie as tie
 

@@ -1,7 +1,7 @@
 -- `moved` meets its contract. Assumes nothing.
 use lib.Ieee.{ofBits, round}
 use Rattle.float.specs.Ops.{two}
-use Rattle.monna.specs.Rng.{pi}
+use Rattle.float.specs.Trig.{pi}
 use Rattle.search.specs.Step.{movedOf}
 use borrow.Author.Needs.{needs}
 use Rattle.search.proofs.moved.Statement.{statement}

@@ -1,7 +1,7 @@
 -- `opening` meets its contract. Assumes nothing.
 use mathlib.Core.Path.{refl}
 use lib.Ieee.{ofBits, round}
-use Rattle.approach.specs.Pca.{largest}
+use Rattle.float.specs.Ops.{largest}
 use Rattle.search.specs.Search.{openingOf}
 use Rattle.search.proofs.opening.Statement.{statement}
 use Rattle.search.proofs.opening.Tie as tie

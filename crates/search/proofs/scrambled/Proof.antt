@@ -1,6 +1,6 @@
 -- `scrambled` meets its contract. Assumes nothing.
 use Rattle.float.specs.Ops.{two-bits}
-use Rattle.monna.specs.Rng.{pi-bits}
+use Rattle.float.specs.Trig.{pi-bits}
 use Rattle.search.specs.Step.{scrambledOf}
 use borrow.Author.Needs.{needs}
 use Rattle.search.proofs.scrambled.Statement.{statement}

@@ -5,7 +5,7 @@ use mathlib.Core.Path.{_≡_, refl}
 use Prim.Native.Nat.{_≤_, _-_}
 use lib.Ieee.{ofBits}
 use Rattle.loops.proofs.Laws.{Left, begins, again, ends}
-use Rattle.approach.specs.Pca.{largest}
+use Rattle.float.specs.Ops.{largest}
 use Rattle.search.specs.Sum.{sumOf}
 use Rattle.search.specs.Search.{generatorOf, withStart, searchOf}
 use Rattle.search.proofs.Draws.{start-is, next-rng, next-best, advanced}

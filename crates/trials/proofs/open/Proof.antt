@@ -1,7 +1,8 @@
 -- `open` meets its contract. Assumes nothing.
 use lib.Ieee.{ofBits, round}
 use Rattle.float.specs.Ops.{one}
-use Rattle.book.specs.Book.{largest, opening}
+use Rattle.float.specs.Ops.{largest}
+use Rattle.book.specs.Book.{opening}
 use mathlib.Core.Path.{refl}
 use Rattle.trials.proofs.open.Statement.{statement}
 use Rattle.trials.proofs.open.Tie as tie

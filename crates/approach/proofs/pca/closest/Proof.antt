@@ -1,6 +1,7 @@
 -- `closest` meets its contract. Assumes nothing.
 use borrow.Author.Needs.{needs}
-use Rattle.approach.specs.Pca.{closestOf, closestSecs, largest-bits}
+use Rattle.float.specs.Ops.{largest-bits}
+use Rattle.approach.specs.Pca.{closestOf, closestSecs}
 use Rattle.approach.proofs.pca.closest.Statement.{statement}
 use Rattle.approach.proofs.pca.closest.Tie as tie
 

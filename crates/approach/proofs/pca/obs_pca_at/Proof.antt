@@ -4,7 +4,8 @@ use Prim.Native.Nat.{_-_, _≤_, _<_}
 use lib.ListN.{length}
 use Rattle.loops.specs.Loop.{for}
 use Rattle.loops.proofs.Laws.{Left, begins, ends, loops}
-use Rattle.approach.specs.Pca.{largest, largest-bits, nearerOf, obsPcaAt}
+use Rattle.float.specs.Ops.{largest, largest-bits}
+use Rattle.approach.specs.Pca.{nearerOf, obsPcaAt}
 use Rattle.approach.proofs.pca.obs_pca_at.Statement.{statement}
 use Rattle.approach.proofs.pca.obs_pca_at.Tie as tie
 

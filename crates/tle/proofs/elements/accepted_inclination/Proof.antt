@@ -1,4 +1,5 @@
-use Rattle.tle.specs.Answer.{halfTurn-bits, inclinationFits}
+use Rattle.float.specs.Trig.{pi-bits}
+use Rattle.tle.specs.Answer.{inclinationFits}
 use borrow.Author.Needs.{needs}
 use Rattle.tle.proofs.elements.accepted_inclination.Statement.{statement}
 use Rattle.tle.proofs.elements.accepted_inclination.Tie as tie
@@ -11,7 +12,7 @@ inside-of-requires c κs = search needs
 
 returns : tie.Need-returns
 unfolding inclinationFits
-returns c = simp (c .inside-of .ensures, halfTurn-bits, ← c .before .before .accepted-angle .ensures, c .before .if1 .taken)
+returns c = simp (c .inside-of .ensures, pi-bits, ← c .before .before .accepted-angle .ensures, c .before .if1 .taken)
 
 returns-2 : tie.Need-returns-2
 unfolding inclinationFits

@@ -1,4 +1,5 @@
-use Rattle.tle.specs.Answer.{leastRadius-bits, greatestRadius-bits, radiusFits}
+use Rattle.solution.specs.Range.{leastRadius-bits, mostRadius-bits}
+use Rattle.tle.specs.Answer.{radiusFits}
 use borrow.Author.Needs.{needs}
 use Rattle.tle.proofs.elements.accepted_radius.Statement.{statement}
 use Rattle.tle.proofs.elements.accepted_radius.Tie as tie
@@ -11,7 +12,7 @@ inside-of-requires c κs = search needs
 
 returns : tie.Need-returns
 unfolding radiusFits
-returns c = simp (c .inside-of .ensures, leastRadius-bits, greatestRadius-bits, ← c .before .before .finite .ensures, c .before .if1 .taken)
+returns c = simp (c .inside-of .ensures, leastRadius-bits, mostRadius-bits, ← c .before .before .finite .ensures, c .before .if1 .taken)
 
 returns-2 : tie.Need-returns-2
 unfolding radiusFits

@@ -1,5 +1,6 @@
 use Rattle.float.specs.Trig.{full-bits}
-use Rattle.tle.specs.Elements.{mu-bits, secondsPerDay-bits, meanMotionOf}
+use Rattle.orbit.specs.Orbit.{mu-bits}
+use Rattle.tle.specs.Elements.{secondsPerDay-bits, meanMotionOf}
 use borrow.Author.Needs.{needs}
 use Rattle.tle.proofs.elements.mean_motion.Statement.{statement}
 use Rattle.tle.proofs.elements.mean_motion.Tie as tie

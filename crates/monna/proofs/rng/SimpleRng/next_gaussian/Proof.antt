@@ -1,6 +1,7 @@
 -- `rng::SimpleRng::next_gaussian` meets its contract. Assumes nothing.
 use Rattle.float.specs.Ops.{two-bits}
-use Rattle.monna.specs.Rng.{gaussianOf, boxMuller, leastUniform-bits, pi-bits}
+use Rattle.float.specs.Trig.{pi-bits}
+use Rattle.monna.specs.Rng.{gaussianOf, boxMuller, leastUniform-bits}
 use borrow.Author.Needs.{needs}
 use Rattle.monna.proofs.rng.SimpleRng.next_gaussian.Statement.{statement}
 use Rattle.monna.proofs.rng.SimpleRng.next_gaussian.Tie as tie
