@@ -10,7 +10,7 @@ pub const KINDS: &[&str] = &[
     "sqrt", "cbrt", "sin", "cos", "ln", "abs", "floor", "round", "signum", "to_degrees", "to_radians", "powi2", "powi3",
     "max", "min", "rem_euclid", "to_u64", "to_i64", "wrapping_mul", "draw", "gaussian", "monna", "unmonna", "padic",
     "history", "normal", "jd", "teme", "wgs84", "prop", "pred", "poly", "pca", "rss", "grad", "solve", "search",
-    "residuals1", "residuals2", "step1", "step2", "fit", "lines", "checksum", "file",
+    "residuals1", "residuals2", "step1", "step2", "steps1", "steps2", "fit", "lines", "checksum", "file",
     "load", "store", "determine",
 ];
 
@@ -127,18 +127,22 @@ pub fn fields(kind: &str, seed: u64, k: u64) -> Vec<u64> {
             }
             l.set(&c.set).floats(&c.receiver).float(r.between(6600e3, 8000e3)).float(c.i)
         }
-        "residuals1" | "residuals2" | "step1" | "step2" => {
+        "residuals1" | "residuals2" | "step1" | "step2" | "steps1" | "steps2" => {
             let mut c = cases::set(r);
             while !workable(&c) {
                 c = cases::set(r);
             }
             let set = if kind.ends_with('2') { parameters(r, 4, c.set.non_empty(), c.i) } else { parameters(r, 2, 2, c.i) };
-            let l = l.set(&c.set).floats(&c.receiver).list(&set);
+            let l = l.set(&c.set).floats(&c.receiver);
             if kind.starts_with("residuals") {
-                l
+                l.list(&set)
             } else {
-                let damping = r.pick(&[1e-6, 1e-3, 0.1, 1.0, 10.0, 1e3, 1e7]);
-                l.float(damping).float(if r.one_in(3) { 0.0 } else { f64::MAX }).list(&set)
+                // A small damping lets a loop of trials that are all left go on to its end.
+                let loops = kind.starts_with("steps");
+                let l = if loops { l.word(if r.one_in(8) { 150 } else { r.below(30) }) } else { l };
+                let small = loops && r.one_in(3);
+                let damping = if small { 1e-150 } else { r.pick(&[1e-6, 1e-3, 0.1, 1.0, 10.0, 1e3, 1e7]) };
+                l.list(&set).float(damping).float(if r.one_in(3) { 0.0 } else { f64::MAX }).list(&set)
             }
         }
         "fit" => {

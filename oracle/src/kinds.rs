@@ -62,10 +62,11 @@ pub fn answered(kind: &str, fields: &[u64]) -> Option<Line> {
             let x = judge::residuals(kind == "residuals2", &f.set()?, f.floats()?, &f.list()?);
             l.refused_or(&x, |l, (v, sum)| l.list(v).float(*sum))
         }
-        "step1" | "step2" => {
+        "step1" | "step2" | "steps1" | "steps2" => {
             let (s, rec) = (f.set()?, f.floats()?);
+            let tries = if kind.starts_with("steps") { f.word()? as usize } else { 1 };
             let from = judge::State { set: f.list()?, damping: f.float()?, best: f.float()?, kept: f.list()? };
-            let x = if kind == "step1" { judge::first(&s, rec, from, 1) } else { judge::second(&s, rec, from, 1) };
+            let x = if kind.ends_with('1') { judge::first(&s, rec, from, tries) } else { judge::second(&s, rec, from, tries) };
             l.refused_or(&x, put_state)
         }
         "fit" => {

@@ -9,7 +9,7 @@ pub const KINDS: &[&str] = &[
     "sqrt", "cbrt", "sin", "cos", "ln", "abs", "floor", "round", "signum", "to_degrees", "to_radians", "powi2", "powi3",
     "max", "min", "rem_euclid", "to_u64", "to_i64", "wrapping_mul", "draw", "gaussian", "monna", "unmonna", "padic",
     "history", "normal", "jd", "teme", "prop", "pred", "poly", "pca", "rss", "grad", "solve", "residuals1",
-    "residuals2", "step1", "step2", "lines", "checksum", "file", "load", "store",
+    "residuals2", "step1", "step2", "steps1", "steps2", "lines", "checksum", "file", "load", "store",
 ];
 
 #[link(name = "exports", kind = "static")]
@@ -561,8 +561,8 @@ pub fn residuals(second_one: bool, s: &Set, rec: [f64; 3], set: &[f64]) -> Answe
     Ok((out.written(s.times.len() + s.counts.len() * if second_one { 3 } else { 1 }), got))
 }
 
-fn trial(second_one: bool, s: &Set, rec: [f64; 3], from: State) -> Answer<State> {
-    let s = working(s, if second_one { 16 } else { 2 });
+/// The state after one trial, and whether the refinement goes on.
+fn trial(second_one: bool, s: &Set, rec: [f64; 3], from: &State) -> Answer<(State, bool)> {
     let n = from.set.len();
     let (mut params, mut kept, mut numbers, mut ended) = (places(&from.set), places(&from.kept), Lent::new(2, PATTERN), Lent::new(1, u32::MAX));
     let mut call = |scratch: *mut f64, room: usize| unsafe {
@@ -582,20 +582,28 @@ fn trial(second_one: bool, s: &Set, rec: [f64; 3], from: State) -> Answer<State>
     match (refusal, ended.written(1)[0]) {
         (0, 1) => Err(23),
         (0, 2) if second_one => Err(10),
-        (0, _) => Ok(State { set, damping: numbers[0], best: numbers[1], kept }),
+        (0, end) => Ok((State { set, damping: numbers[0], best: numbers[1], kept }, end == 0)),
         _ => Err(refusal),
     }
 }
 
-/// One trial; the judge makes any number.
+fn trials(second_one: bool, s: &Set, rec: [f64; 3], from: State, tries: usize) -> Answer<State> {
+    let s = working(s, if second_one { 16 } else { 2 });
+    let (mut state, mut running) = (from, true);
+    for _ in 0..tries {
+        if running {
+            (state, running) = trial(second_one, &s, rec, &state)?;
+        }
+    }
+    Ok(state)
+}
+
 pub fn first(s: &Set, rec: [f64; 3], from: State, tries: usize) -> Answer<State> {
-    assert!(tries == 1);
-    trial(false, s, rec, from)
+    trials(false, s, rec, from, tries)
 }
 
 pub fn second(s: &Set, rec: [f64; 3], from: State, tries: usize) -> Answer<State> {
-    assert!(tries == 1);
-    trial(true, s, rec, from)
+    trials(true, s, rec, from, tries)
 }
 
 /// The scratch that a fit needs.
