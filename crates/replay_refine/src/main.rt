@@ -1,5 +1,5 @@
-// Asks stored answers of the original again: residuals with their penalised sums, and single trials, of both refinements. `oracle/store`
-// makes the list.
+// Asks stored answers of the original again: residuals with their penalised sums, single trials and loops of them, of both refinements.
+// `oracle/store` makes the list.
 ghost use Prim.Native.Nat.{_≤_};
 use book::Ending;
 use frame::Vec3;
@@ -66,27 +66,65 @@ fn refusal_of(second: bool, t: Tried) -> u32 {
     }
 }
 
-// A trial; the fields after the set are: receiver, state.
-fn step(
+// So many trials, or fewer where the refinement ends before.
+fn trials_of(
     second: bool,
     counts: &[u32],
     times: &[i64],
     freqs: &[f64],
     center_freq: f64,
-    fields: &[u8],
+    rec_ecef: Vec3,
+    tries: u64,
+    from: State,
+) -> Tried {
+    let mut scratch = [0.0; refine_call::TABLE];
+    let mut t = Tried {
+        refusal: 0,
+        state: from,
+    };
+    let mut n = 0u64;
+    while n < tries {
+        let s = t.state;
+        let e = s.ended;
+        let Ending::Running = e else {
+            break;
+        };
+        t = refine_call::trial(
+            second,
+            counts,
+            times,
+            freqs,
+            center_freq,
+            rec_ecef,
+            s,
+            &mut scratch,
+        );
+        n += 1;
+    }
+    t
+}
+
+// A loop of trials; `state` has the fields of the state that it starts from.
+fn steps(
+    second: bool,
+    counts: &[u32],
+    times: &[i64],
+    freqs: &[f64],
+    center_freq: f64,
+    rec_ecef: Vec3,
+    tries: u64,
+    state: &[u8],
     answer: &[u8],
 ) -> bool {
-    let mut scratch = [0.0; refine_call::TABLE];
-    let state = answer_lines::from(fields, 3);
-    let t = refine_call::trial(
+    let t = trials_of(
         second,
         counts,
         times,
         freqs,
         center_freq,
-        place(fields),
+        rec_ecef,
+        tries,
         state_at(state),
-        &mut scratch,
     );
     let refusal = refusal_of(second, t);
     if answer_lines::field(answer, 0) != refusal as u64 {
@@ -161,8 +199,15 @@ fn asked(
     let t = answer_lines::first_times(times, samples);
     let f = answer_lines::first_floats(freqs, samples);
     let answer = answer_lines::answer(line);
+    let rec_ecef = place(rest);
+    let more = answer_lines::from(rest, 3);
+    if answer_lines::begins_with(line, b"steps") {
+        let tries = answer_lines::field(more, 0);
+        let state = answer_lines::from(more, 1);
+        return steps(second, c, t, f, center_freq, rec_ecef, tries, state, answer);
+    }
     if answer_lines::begins_with(line, b"step") {
-        return step(second, c, t, f, center_freq, rest, answer);
+        return steps(second, c, t, f, center_freq, rec_ecef, 1, more, answer);
     }
     residuals(second, c, t, f, center_freq, rest, answer)
 }
@@ -195,11 +240,13 @@ fn asked_of(second: bool, line: &[u8]) -> bool {
 fn agrees(line: &[u8]) -> bool {
     if answer_lines::begins_with(line, b"residuals1 ")
         || answer_lines::begins_with(line, b"step1 ")
+        || answer_lines::begins_with(line, b"steps1 ")
     {
         return asked_of(false, line);
     }
     if answer_lines::begins_with(line, b"residuals2 ")
         || answer_lines::begins_with(line, b"step2 ")
+        || answer_lines::begins_with(line, b"steps2 ")
     {
         return asked_of(true, line);
     }
