@@ -158,6 +158,39 @@ uint32_t wisvalom_tle_checksum(const uint8_t *line, size_t n);
 uint32_t wisvalom_format_tle_catalog(const uint8_t *name, size_t n, double a, double i, double raan0, double u0, int64_t epoch,
                                      uint32_t epoch_nanos, uint8_t *out, size_t room, size_t *length);
 
+/* Fit and lines in one call, on a pass set in arrays and on a stored one: fits as wisvalom_fit_orbit_doppler does, with the same memory,
+ * and writes the lines of an accepted orbit under this name to the first *length bytes of text, which has wisvalom_text_size(n) bytes
+ * or more. Returns the fit's refusal; stored bytes are refused by 5, then 4, before the fit's own list. *lines is the lines' own refusal,
+ * 11 or 21, which leaves an accepted fit as it is; of a refused fit *lines has the number too. Lines that are refused write nothing to text,
+ * and *length is then 0. */
+uint32_t wisvalom_fit_and_format(const uint32_t *counts, size_t passes, const int64_t *times, size_t samples, const double *freqs,
+                                 size_t frequencies, const double *centers, size_t centres, double x, double y, double z,
+                                 double initial_a, double initial_i, double *dts, size_t dts_room, double *dfs, size_t dfs_room,
+                                 double *df1s, size_t df1s_room, double *df2s, size_t df2s_room, double *log, size_t log_room,
+                                 double *scratch, size_t scratch_room, const uint8_t *name, size_t n, uint8_t *text,
+                                 size_t text_room, double *a, double *i, double *raan0, double *u0, int64_t *epoch,
+                                 uint32_t *epoch_nanos, size_t *trials, double *best, uint32_t *lines, size_t *length);
+uint32_t wisvalom_fit_and_format_stored(const uint8_t *bytes, size_t size, const double *centers, size_t centres, double x, double y,
+                                        double z, double initial_a, double initial_i, double *dts, size_t dts_room, double *dfs,
+                                        size_t dfs_room, double *df1s, size_t df1s_room, double *df2s, size_t df2s_room,
+                                        double *log, size_t log_room, double *scratch, size_t scratch_room, const uint8_t *name,
+                                        size_t n, uint8_t *text, size_t text_room, double *a, double *i, double *raan0, double *u0,
+                                        int64_t *epoch, uint32_t *epoch_nanos, size_t *trials, double *best, uint32_t *lines,
+                                        size_t *length);
+
+/* A number as Rust reads it: *taken becomes 1 and *out the nearest double, or *taken 0 where the text is none, which leaves *out as it
+ * was. Refuses: 3 (over 19 digits, or an exponent of over two digits or beyond 30), which leaves both. */
+uint32_t wisvalom_parse(const uint8_t *text, size_t n, uint32_t *taken, double *out);
+
+/* v to so many places, 0 to 8, in the `width` columns of out from `at`, `pad` on their left: the nearest decimal, a tie to the even one. False,
+ * with nothing written, unless v is from 0 up to, not including, 1000, width is places + 2 to 16 and holds all digits, and the columns lie in out. */
+bool wisvalom_put_fixed(double v, size_t places, uint8_t pad, uint8_t *out, size_t room, size_t at, size_t width);
+
+/* A time as RFC 3339 writes it, of any year from 0000 to 9999, without second 60: seconds from a day before the year 0000 (less
+ * WISVALOM_SECONDS_TO_1970 they are those since 1970, or before it) and nanoseconds. False, with nothing written, where the text is none. */
+#define WISVALOM_SECONDS_TO_1970 INT64_C(62167305600)
+bool wisvalom_parse_from_rfc3339(const uint8_t *text, size_t n, uint64_t *seconds, uint64_t *nanos);
+
 #ifdef __cplusplus
 }
 #endif

@@ -1,4 +1,5 @@
 pub mod Answers
+pub mod Determinations
 pub mod Draws
 pub mod Elements
 pub mod Files
@@ -8,3 +9,4 @@ pub mod Refinements
 pub mod Sets
 pub mod Sums
 pub mod Systems
+pub mod Texts

@@ -1,9 +1,40 @@
 // The fit. Its orbit, count and best sum go to places of their own: zeros after a refusal.
+ghost use mathlib.Core.Path.{_≡_};
 ghost use Rattle.fit.specs.Answer.{arguments, outputs};
 ghost use Rattle.exports.specs.Answers.{place};
 ghost use Rattle.exports.specs.Elements.{orbit};
-ghost use Rattle.exports.specs.Fits.{FitsTo};
+ghost use Rattle.exports.specs.Fits.{fitted, FitsTo};
+use fit::Fit;
 use frame::Vec3;
+
+// Puts an answer's numbers to places of their own, and gives its refusal.
+pub fn put(
+    answer: Fit,
+    a: &mut f64,
+    i: &mut f64,
+    raan0: &mut f64,
+    u0: &mut f64,
+    epoch: &mut i64,
+    epoch_nanos: &mut u32,
+    trials: &mut usize,
+    best: &mut f64,
+) -> u32
+    ensures { λ r. ⌜ answer ≡ fitted (orbit (now (a .exit)) (now (i .exit)) (now (raan0 .exit)) (now (u0 .exit)) (now (epoch .exit)) (now («epoch_nanos» .exit)))
+        (now (trials .exit)) (now (best .exit)) r ⌝ }
+{
+    let solved = answer.orbit;
+    let at = solved.epoch;
+    *a = solved.a;
+    *i = solved.i;
+    *raan0 = solved.raan0;
+    *u0 = solved.u0;
+    let seconds = at.seconds;
+    *epoch = seconds;
+    *epoch_nanos = at.nanos;
+    *trials = answer.trials;
+    *best = answer.best;
+    answer.refusal
+}
 
 #[no_mangle]
 pub extern "C" fn wisvalom_fit_orbit_doppler(
@@ -51,16 +82,5 @@ pub extern "C" fn wisvalom_fit_orbit_doppler(
         log,
         scratch,
     );
-    let solved = answer.orbit;
-    let at = solved.epoch;
-    *a = solved.a;
-    *i = solved.i;
-    *raan0 = solved.raan0;
-    *u0 = solved.u0;
-    let seconds = at.seconds;
-    *epoch = seconds;
-    *epoch_nanos = at.nanos;
-    *trials = answer.trials;
-    *best = answer.best;
-    answer.refusal
+    put(answer, a, i, raan0, u0, epoch, epoch_nanos, trials, best)
 }

@@ -1,6 +1,7 @@
 // Functions that other languages link: numbers pass as themselves, a slice as its start and length. The names begin
 // with the program's, since a name is the whole program's, as in C. Those that can refuse return the number of the
 // refusal, 0 if none, and write what they give into `out`.
+pub mod determinations;
 pub mod draws;
 pub mod elements;
 pub mod files;
@@ -11,6 +12,7 @@ pub mod refinements;
 pub mod sets;
 pub mod sums;
 pub mod systems;
+pub mod texts;
 
 ghost use mathlib.Core.Path.{_≡_};
 ghost use Rattle.roots.specs.Root.{sqrtOf};

@@ -1,4 +1,6 @@
-use mathlib.Core.Path.{ap}
+use mathlib.Core.Path.{ap, _∙_}
+use Rattle.monna.specs.Rng.{drawOf}
+use Rattle.exports.specs.Draws.{generator}
 use borrow.Author.Needs.{needs}
 use Rattle.exports.proofs.draws.wisvalom_next_f64.Statement.{statement}
 use Rattle.exports.proofs.draws.wisvalom_next_f64.Tie as tie
@@ -6,8 +8,13 @@ use Rattle.exports.proofs.draws.wisvalom_next_f64.Tie as tie
 next-f64-requires : tie.Need-next-f64-requires
 next-f64-requires c κs = search needs
 
+new-requires : tie.Need-new-requires
+new-requires c κs = search needs
+
 returns : tie.Need-returns
-returns c = (ap (λ d. d .value) (c .before .next-f64 .ensures), ap (λ d. d .rng .state) (c .before .next-f64 .ensures))
+returns c =
+    let e = c .before .next-f64 .ensures ∙ ap (λ s. drawOf (generator s)) (c .before .before .new .ensures) in
+    (ap (λ d. d .value) e, ap (λ d. d .rng .state) e)
 
 pub wisvalom-next-f64-spec : {M : Type 1} → statement M
-wisvalom-next-f64-spec = tie.close (tie.spec next-f64-requires returns)
+wisvalom-next-f64-spec = tie.close (tie.spec new-requires next-f64-requires returns)
