@@ -179,3 +179,25 @@ pub fn printed(r: &mut Random) -> [f64; 4] {
     };
     [a, i, angle(r), angle(r)]
 }
+
+/// A float to print and its places: usual ones, ties and their neighbours, ends of the range, anything.
+pub fn fixed(r: &mut Random) -> (f64, u64) {
+    let places = if r.one_in(20) { r.below(11) } else { r.pick(&[0, 1, 2, 3, 4, 4, 5, 6, 7, 8, 8]) };
+    let ten = 10f64.powi(places as i32);
+    let v = match r.below(10) {
+        // An odd multiple of half a unit that an f64 holds exactly, or the f64 nearest to one that it does not.
+        0 => (2 * r.below(500 << places.min(20)) + 1) as f64 / (2u64 << places) as f64,
+        1 => (r.below(1000 * ten as u64) as f64 + 0.5) / ten,
+        2 => r.below(1000 * ten as u64 + 1) as f64 / ten,
+        3 => r.pick(&[0.0, -0.0, 1000.0, 999.5, 999.99995, 999.999999995, 99.95, 9.99995, 0.5, 5e-5, 5e-9, 5e-324, 2.2250738585072014e-308, -5e-324]),
+        4 => r.float(),
+        5 => r.unit() * 10f64.powi(-(r.below(20) as i32)),
+        _ => r.between(0.0, 1000.0),
+    };
+    let near = match r.below(4) {
+        0 => f64::from_bits(v.to_bits().wrapping_add(1)),
+        1 => f64::from_bits(v.to_bits().wrapping_sub(1)),
+        _ => v,
+    };
+    (near, places)
+}

@@ -48,6 +48,66 @@ fn number(r: &mut Random) -> String {
     }
 }
 
+/// A text of a number: as in pass files, by random digits, at and beside a tie of two floats, as Rust prints one; sometimes damaged.
+pub fn decimal(r: &mut Random) -> Vec<u8> {
+    let text = match r.below(8) {
+        0 => number(r),
+        1 | 2 => {
+            let mut s: String = (0..1 + r.below(20)).map(|_| (b'0' + r.below(10) as u8) as char).collect();
+            if r.one_in(2) {
+                s.insert(r.below(s.len() as u64 + 1) as usize, '.');
+            }
+            s + &exponent(r)
+        }
+        // 54 bits, of which the last is 1, are half way between two floats: whole numbers, and with up to three places.
+        3 => ((1u64 << 53 | r.word() >> 11) << r.below(10) | 1 << r.below(10)).to_string() + &exponent(r),
+        4 => {
+            let down = r.below(4);
+            let odd = 1u64 << 53 | r.word() >> 11 | 1;
+            let (whole, part) = (odd >> down, (odd % (1 << down)) * 1000 >> down);
+            format!("{whole}.{part:03}")[..].trim_end_matches('0').to_string()
+        }
+        5 => format!("{}", r.between(-1e9, 1e9)),
+        6 => format!("{:e}", r.float()),
+        _ => format!("{:.*}", r.below(12) as usize, r.between(0.0, 1e9)),
+    };
+    let mut out = format!("{}{text}", r.pick(&["", "", "", "-", "+"])).into_bytes();
+    if r.one_in(4) {
+        // A neighbour of what was written, in its last digit.
+        if let Some(at) = out.iter().rposition(|b| b.is_ascii_digit()) {
+            out[at] = b'0' + r.below(10) as u8;
+        }
+    }
+    if r.one_in(6) {
+        damage(r, &mut out);
+    }
+    out
+}
+
+fn exponent(r: &mut Random) -> String {
+    match r.below(3) {
+        0 => String::new(),
+        1 => format!("{}{}{}", r.pick(&['e', 'E']), r.pick(&["", "-", "+"]), r.below(33)),
+        _ => format!("e{}{:02}", r.pick(&["", "-", "+"]), r.below(31)),
+    }
+}
+
+/// A text of a time, sometimes damaged.
+pub fn moment(r: &mut Random) -> Vec<u8> {
+    let mut out = time(r).into_bytes();
+    if r.one_in(4) {
+        // Another digit: months, days, hours and seconds past their ends, and days of all years.
+        let at = r.below(out.len() as u64) as usize;
+        if out[at].is_ascii_digit() {
+            out[at] = b'0' + r.below(10) as u8;
+        }
+    }
+    if r.one_in(4) {
+        damage(r, &mut out);
+    }
+    out
+}
+
 fn blank(r: &mut Random) -> String {
     (0..r.below(3)).map(|_| r.pick(&[' ', '\t', '\u{b}', '\u{c}', ' ', '\u{1c}', '\r'])).collect()
 }

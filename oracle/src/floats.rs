@@ -73,6 +73,16 @@ pub fn two(name: &str, v: f64, w: f64) -> Option<f64> {
     })
 }
 
+#[cfg(feature = "records")]
+pub fn power(v: f64, n: u64) -> Option<f64> {
+    Some(v.meant_powi(i32::try_from(n).ok()?))
+}
+
+#[cfg(not(feature = "records"))]
+pub fn power(v: f64, n: u64) -> Option<f64> {
+    Some(v.powi(i32::try_from(n).ok()?))
+}
+
 #[cfg(not(feature = "records"))]
 pub fn one(name: &str, v: f64) -> Option<f64> {
     Some(match name {

@@ -8,16 +8,20 @@ use crate::Moment;
 
 pub const KINDS: &[&str] = &[
     "sqrt", "cbrt", "sin", "cos", "ln", "abs", "floor", "round", "signum", "to_degrees", "to_radians", "powi2", "powi3",
-    "max", "min", "rem_euclid", "to_u64", "to_i64", "wrapping_mul", "draw", "gaussian", "monna", "unmonna", "padic",
+    "power", "max", "min", "rem_euclid", "to_u64", "to_i64", "wrapping_mul", "draw", "gaussian", "monna", "unmonna", "padic",
     "history", "normal", "jd", "teme", "wgs84", "prop", "pred", "poly", "pca", "rss", "grad", "solve", "search",
     "residuals1", "residuals2", "step1", "step2", "steps1", "steps2", "fit", "lines", "checksum", "file",
-    "load", "store", "determine",
+    "load", "store", "fit_lines", "determine", "parse", "put_fixed", "rfc3339",
 ];
 
-/// Whether an answer of the kind begins with a refusal.
-pub fn refuses(kind: &str) -> bool {
+/// What an answer of the kind begins with: a refusal, or 1 where something was taken.
+pub fn first_field(kind: &str) -> Option<&'static str> {
     let at = KINDS.iter().position(|&k| k == kind);
-    at >= KINDS.iter().position(|&k| k == "monna") && !["normal", "teme", "wgs84", "checksum"].contains(&kind)
+    match kind {
+        "normal" | "teme" | "wgs84" | "checksum" => None,
+        "put_fixed" | "rfc3339" => Some("taken"),
+        _ => (at >= KINDS.iter().position(|&k| k == "monna")).then_some("by refusal"),
+    }
 }
 
 /// A fit and its lines, asked from stored bytes.
@@ -66,6 +70,10 @@ pub fn fields(kind: &str, seed: u64, k: u64) -> Vec<u64> {
         "max" | "min" | "rem_euclid" => {
             let (v, w) = (r.float(), if r.one_in(4) { r.pick(&[360.0, 6.283185307179586]) } else { r.float() });
             l.float(v).float(w)
+        }
+        "power" => {
+            let v = if r.one_in(2) { r.pick(&[2.0, 3.0, 4.0, 5.0, 6.0, 7.0, 0.1]) } else { r.float() };
+            l.float(v).word(if r.one_in(20) { r.below(2000) } else { r.below(70) })
         }
         "wrapping_mul" => l.word(r.word() >> r.below(64)).word(r.word() >> r.below(64)),
         "draw" | "gaussian" => l.word(if r.one_in(10) { r.below(4).wrapping_sub(1) } else { r.word() }),
@@ -149,6 +157,10 @@ pub fn fields(kind: &str, seed: u64, k: u64) -> Vec<u64> {
             let c = simulator::any(seed.wrapping_add(k));
             l.set(&c.set).floats(&c.receiver).float(c.a).float(c.i)
         }
+        "fit_lines" => {
+            let c = simulator::any(seed.wrapping_add(k));
+            l.set(&c.set).floats(&c.receiver).float(c.a).float(c.i).bytes(&cases::name(r))
+        }
         "determine" => {
             let c = simulator::any(seed.wrapping_add(k));
             let bytes = if r.one_in(8) { files::stored(r.word(), &c.set) } else { c.set.stored() };
@@ -161,6 +173,23 @@ pub fn fields(kind: &str, seed: u64, k: u64) -> Vec<u64> {
             l.bytes(&t)
         }
         "file" => l.bytes(&files::file(r.word())),
+        "parse" => l.bytes(&files::decimal(r)),
+        "put_fixed" => {
+            let (v, places) = cases::fixed(r);
+            let width = match r.below(8) {
+                0 => r.below(20),
+                1 => r.word(),
+                _ => places + 2 + r.below(4),
+            };
+            let room = width.min(17) + r.below(4);
+            let at = match r.below(8) {
+                0 => r.below(26),
+                1 => u64::MAX - r.below(20),
+                _ => r.below(room.saturating_sub(width) + 1),
+            };
+            l.float(v).word(places).word(r.pick(&[b' ', b'0', b'*', 255]) as u64).word(room).word(at).word(width)
+        }
+        "rfc3339" => l.bytes(&files::moment(r)),
         "load" => {
             let seed = r.word();
             l.bytes(&files::stored(seed, &cases::set(r).set))

@@ -18,8 +18,12 @@ pub fn time(m: Moment) -> DateTime<Utc> {
     DateTime::from_utc(NaiveDateTime::from_timestamp_opt(m.seconds, m.nanos).unwrap(), Utc)
 }
 
+fn moment(t: DateTime<Utc>) -> Moment {
+    Moment { seconds: t.timestamp(), nanos: t.timestamp_subsec_nanos() }
+}
+
 fn nanos(t: DateTime<Utc>) -> i64 {
-    Moment { seconds: t.timestamp(), nanos: t.timestamp_subsec_nanos() }.nanos()
+    moment(t).nanos()
 }
 
 fn accepted(moments: &[Moment]) -> Answer<()> {
@@ -375,6 +379,50 @@ pub fn lines(name: &[u8], e: [f64; 4], epoch: Moment) -> Answer<Vec<u8>> {
     Ok(solver::format_tle_catalog(std::str::from_utf8(name).unwrap(), &orbit).into_bytes())
 }
 
+/// The fit, and the lines of an orbit that it accepts.
+pub fn fit_lines(s: &Set, rec: [f64; 3], a: f64, i: f64, name: &[u8]) -> Answer<(Fit, Answer<Vec<u8>>)> {
+    let fit = fit(s, rec, a, i)?;
+    let lines = lines(name, fit.orbit, Moment::of_nanos(fit.epoch));
+    Ok((fit, lines))
+}
+
+/// The same on stored bytes, whose 5 and 4 come first.
+pub fn determine(bytes: &[u8], centers: Vec<f64>, rec: [f64; 3], a: f64, i: f64, name: &[u8]) -> Answer<(Fit, Answer<Vec<u8>>)> {
+    fit_lines(&Set { centers, ..load(bytes)? }, rec, a, i, name)
+}
+
+// Numbers and times as text: Rust's own, and chrono's.
+
+/// None where Rust takes the text for no number.
+pub fn parse(text: &[u8]) -> Answer<Option<f64>> {
+    let Some((text, v)) = std::str::from_utf8(text).ok().and_then(|t| t.parse().ok().map(|v| (t, v))) else {
+        return Ok(None);
+    };
+    if oversized(text) { Err(3) } else { Ok(Some(v)) }
+}
+
+/// The columns of v with so many places, on their left `pad`; a minus before a zero goes, and a number without places has its point. None
+/// where v is not within 0 to 1000, where there are over 8 places or 16 columns, or where a digit or a column has no room.
+pub fn put_fixed(v: f64, places: u64, pad: u8, room: u64, at: u64, width: u64) -> Option<Vec<u8>> {
+    if !(v >= 0.0 && v < 1000.0) || places > 8 || width > 16 || at > room || width > room - at {
+        return None;
+    }
+    let digits = format!("{:.*}{}", places as usize, v + 0.0, if places == 0 { "." } else { "" }).into_bytes();
+    let blank = (width as usize).checked_sub(digits.len())?;
+    Some([vec![pad; blank], digits].concat())
+}
+
+/// Second 60, a blank for T and "UTC" for Z are recorded differences: document 01 has no such times.
+fn left_out(taken: &str) -> bool {
+    &taken[17..19] == "60" || &taken[10..11] == " " || taken.to_ascii_lowercase().ends_with("utc")
+}
+
+pub fn rfc3339(text: &[u8]) -> Option<Moment> {
+    let text = std::str::from_utf8(text).ok()?;
+    let t = DateTime::parse_from_rfc3339(text).ok()?;
+    (!left_out(text)).then(|| moment(t.with_timezone(&Utc)))
+}
+
 // Pass files.
 
 #[derive(Clone, Debug, PartialEq)]
@@ -421,12 +469,10 @@ fn judged(line: &[u8]) -> Answer<bool> {
         return Ok(true);
     };
     if let (Ok(t), Ok(_)) = (DateTime::parse_from_rfc3339(when), number.parse::<f64>()) {
-        // Second 60, a blank for T and "UTC" for Z: skipped lines, recorded differences.
-        if &when[17..19] == "60" || &when[10..11] == " " || when.to_ascii_lowercase().ends_with("utc") {
+        if left_out(when) {
             return Ok(false);
         }
-        let t = t.with_timezone(&Utc);
-        if !(Moment { seconds: t.timestamp(), nanos: t.timestamp_subsec_nanos() }).accepted() {
+        if !moment(t.with_timezone(&Utc)).accepted() {
             return Err(4);
         }
         if oversized(number) {

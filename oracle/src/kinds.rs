@@ -5,6 +5,21 @@ fn put_state(l: Line, s: &judge::State) -> Line {
     l.list(&s.set).float(s.damping).float(s.best).list(&s.kept)
 }
 
+fn put_determination(l: Line, (x, lines): &(judge::Fit, judge::Answer<Vec<u8>>)) -> Line {
+    let bias = |k: usize| x.biases.iter().map(|b| b[k]).collect::<Vec<f64>>();
+    let l = l.floats(&x.orbit).moment(common::Moment::of_nanos(x.epoch)).float(x.sum).list(&x.log);
+    let l = l.list(&bias(0)).list(&bias(1)).list(&bias(2)).list(&bias(3));
+    l.refused_or(lines, |l, t| l.bytes(t))
+}
+
+/// 1 and what follows, or 0 alone.
+fn put_taken<T>(l: Line, x: &Option<T>, put: impl FnOnce(Line, &T) -> Line) -> Line {
+    match x {
+        Some(x) => put(l.word(1), x),
+        None => l.word(0),
+    }
+}
+
 /// The line with its answer; None where the side has no such kind or the fields do not fit it.
 pub fn answered(kind: &str, fields: &[u64]) -> Option<Line> {
     let mut given = Fields::of(fields);
@@ -12,6 +27,7 @@ pub fn answered(kind: &str, fields: &[u64]) -> Option<Line> {
     let l = fields.iter().fold(Line::of(kind), |l, &w| l.word(w)).answer();
     let l = match kind {
         "max" | "min" | "rem_euclid" => l.float(judge::floats::two(kind, f.float()?, f.float()?)?),
+        "power" => l.float(judge::floats::power(f.float()?, f.word()?)?),
         "to_u64" => l.word(judge::floats::to_u64(f.float()?)?),
         "to_i64" => l.int(judge::floats::to_i64(f.float()?)?),
         "wrapping_mul" => l.word(judge::floats::wrapping_mul(f.word()?, f.word()?)?),
@@ -76,23 +92,25 @@ pub fn answered(kind: &str, fields: &[u64]) -> Option<Line> {
                 l.floats(&f.orbit).int(f.epoch).list(&biases).float(f.sum).list(&f.log).word(f.positions)
             })
         }
+        "fit_lines" => {
+            let x = judge::fit_lines(&f.set()?, f.floats()?, f.float()?, f.float()?, &f.bytes()?);
+            l.refused_or(&x, put_determination)
+        }
         "determine" => {
-            let (bytes, centers) = (f.bytes()?, f.list()?);
-            let (rec, a, i, name) = (f.floats()?, f.float()?, f.float()?, f.bytes()?);
-            let x = judge::load(&bytes).and_then(|s| judge::fit(&common::Set { centers, ..s }, rec, a, i));
-            l.refused_or(&x, |l, x| {
-                let bias = |k: usize| x.biases.iter().map(|b| b[k]).collect::<Vec<f64>>();
-                let epoch = common::Moment::of_nanos(x.epoch);
-                let l = l.floats(&x.orbit).moment(epoch).float(x.sum).list(&x.log);
-                let l = l.list(&bias(0)).list(&bias(1)).list(&bias(2)).list(&bias(3));
-                l.refused_or(&judge::lines(&name, x.orbit, epoch), |l, t| l.bytes(t))
-            })
+            let x = judge::determine(&f.bytes()?, f.list()?, f.floats()?, f.float()?, f.float()?, &f.bytes()?);
+            l.refused_or(&x, put_determination)
         }
         "lines" => {
             let x = judge::lines(&f.bytes()?, f.floats()?, f.moment()?);
             l.refused_or(&x, |l, t| l.bytes(t))
         }
         "checksum" => l.word(judge::checksum(std::str::from_utf8(&f.bytes()?).ok()?) as u64),
+        "parse" => l.refused_or(&judge::parse(&f.bytes()?), |l, x| put_taken(l, x, |l, &x| l.float(x))),
+        "put_fixed" => {
+            let x = judge::put_fixed(f.float()?, f.word()?, u8::try_from(f.word()?).ok()?, f.word()?, f.word()?, f.word()?);
+            put_taken(l, &x, |l, t| l.bytes(t))
+        }
+        "rfc3339" => put_taken(l, &judge::rfc3339(&f.bytes()?), |l, &m| l.moment(m)),
         "file" => l.refused_or(&judge::file(&f.bytes()?), |l, f| {
             l.word(f.seen as u64).bytes(&f.name).float(f.center).ints(&f.times).list(&f.freqs)
         }),

@@ -7,9 +7,10 @@ pub use patched::judge::{Answer, File, Fit, State};
 
 pub const KINDS: &[&str] = &[
     "sqrt", "cbrt", "sin", "cos", "ln", "abs", "floor", "round", "signum", "to_degrees", "to_radians", "powi2", "powi3",
-    "max", "min", "rem_euclid", "to_u64", "to_i64", "wrapping_mul", "draw", "gaussian", "monna", "unmonna", "padic",
+    "power", "max", "min", "rem_euclid", "to_u64", "to_i64", "wrapping_mul", "draw", "gaussian", "monna", "unmonna", "padic",
     "history", "normal", "jd", "teme", "prop", "pred", "poly", "pca", "rss", "grad", "solve", "residuals1",
-    "residuals2", "step1", "step2", "steps1", "steps2", "lines", "checksum", "file", "load", "store",
+    "residuals2", "step1", "step2", "steps1", "steps2", "lines", "checksum", "file", "load", "store", "parse", "put_fixed",
+    "rfc3339",
 ];
 
 #[link(name = "exports", kind = "static")]
@@ -119,6 +120,26 @@ unsafe extern "C" {
         log: *mut f64, log_room: usize, scratch: *mut f64, scratch_room: usize,
         a: *mut f64, i: *mut f64, raan0: *mut f64, u0: *mut f64, epoch: *mut i64, epoch_nanos: *mut u32, trials: *mut usize, best: *mut f64,
     ) -> u32;
+    pub fn wisvalom_fit_and_format(
+        counts: *const u32, passes: usize, times: *const i64, samples: usize,
+        freqs: *const f64, frequencies: usize, centers: *const f64, centres: usize,
+        x: f64, y: f64, z: f64, initial_a: f64, initial_i: f64,
+        dts: *mut f64, dts_room: usize, dfs: *mut f64, dfs_room: usize, df1s: *mut f64, df1s_room: usize, df2s: *mut f64, df2s_room: usize,
+        log: *mut f64, log_room: usize, scratch: *mut f64, scratch_room: usize, name: *const u8, n: usize, text: *mut u8, text_room: usize,
+        a: *mut f64, i: *mut f64, raan0: *mut f64, u0: *mut f64, epoch: *mut i64, epoch_nanos: *mut u32, trials: *mut usize, best: *mut f64,
+        lines: *mut u32, length: *mut usize,
+    ) -> u32;
+    pub fn wisvalom_fit_and_format_stored(
+        bytes: *const u8, size: usize, centers: *const f64, centres: usize,
+        x: f64, y: f64, z: f64, initial_a: f64, initial_i: f64,
+        dts: *mut f64, dts_room: usize, dfs: *mut f64, dfs_room: usize, df1s: *mut f64, df1s_room: usize, df2s: *mut f64, df2s_room: usize,
+        log: *mut f64, log_room: usize, scratch: *mut f64, scratch_room: usize, name: *const u8, n: usize, text: *mut u8, text_room: usize,
+        a: *mut f64, i: *mut f64, raan0: *mut f64, u0: *mut f64, epoch: *mut i64, epoch_nanos: *mut u32, trials: *mut usize, best: *mut f64,
+        lines: *mut u32, length: *mut usize,
+    ) -> u32;
+    pub fn wisvalom_parse(text: *const u8, n: usize, taken: *mut u32, out: *mut f64) -> u32;
+    pub fn wisvalom_put_fixed(v: f64, places: usize, pad: u8, out: *mut u8, room: usize, at: usize, width: usize) -> bool;
+    pub fn wisvalom_parse_from_rfc3339(text: *const u8, n: usize, seconds: *mut u64, nanos: *mut u64) -> bool;
 }
 
 /// Memory lent to a call: `n` places between guards, all filled with a pattern.
@@ -146,12 +167,17 @@ impl<T: Copy + PartialEq + std::fmt::Debug> Lent<T> {
     }
     /// The first `written` places; the others, and the guards, must be as they were.
     pub fn written(&self, written: usize) -> Vec<T> {
+        self.written_at(0, written)
+    }
+    /// The `written` places from `at` on; the others, and the guards, must be as they were.
+    pub fn written_at(&self, at: usize, written: usize) -> Vec<T> {
+        let from = self.guard + at;
         for (k, v) in self.room.iter().enumerate() {
-            if k < self.guard || k >= self.guard + written {
+            if k < from || k >= from + written {
                 assert!(*v == self.pattern, "place {} was written: {v:?}", k as i64 - self.guard as i64);
             }
         }
-        self.places()[..written].to_vec()
+        self.room[from..from + written].to_vec()
     }
     /// The guards are as they were.
     pub fn guarded(&self) {
@@ -208,6 +234,9 @@ pub mod floats {
                 _ => return None,
             })
         }
+    }
+    pub fn power(v: f64, n: u64) -> Option<f64> {
+        Some(unsafe { wisvalom_power(v, n) })
     }
     pub fn to_u64(v: f64) -> Option<u64> {
         Some(unsafe { wisvalom_to_u64(v) })
@@ -611,64 +640,197 @@ pub fn fit_scratch(samples: usize, passes: usize) -> usize {
     (samples + 3 * passes) * (5 + 4 * passes) + 20_000
 }
 
-/// The fit; positions are not counted.
-pub fn fit(s: &Set, rec: [f64; 3], a: f64, i: f64) -> Answer<Fit> {
-    let (passes, samples) = (s.non_empty(), s.times.len());
-    let more = spare(samples);
-    // Four slices of biases, the log, the scratch.
-    let needed = [passes, passes, passes, passes, 150, fit_scratch(samples.min(4096), passes.min(16))];
-    let mut numbers = Lent::new(5, PATTERN);
-    let (mut epoch, mut nanos, mut trials) = (Lent::new(1, TIME), Lent::new(1, u32::MAX), Lent::new(1, usize::MAX));
-    let mut call = |lent: &mut [Lent<f64>]| unsafe {
-        let mut at = lent.iter_mut().map(|l| (l.places().len(), l.start()));
-        let mut next = || at.next().unwrap();
-        let (dts, dfs, df1s, df2s, log, scratch) = (next(), next(), next(), next(), next(), next());
-        let number = numbers.start();
-        wisvalom_fit_orbit_doppler(
-            s.counts.as_ptr(), s.counts.len(), s.times.as_ptr(), samples, s.freqs.as_ptr(), s.freqs.len(), s.centers.as_ptr(), s.centers.len(),
-            rec[0], rec[1], rec[2], a, i, dts.1, dts.0, dfs.1, dfs.0, df1s.1, df1s.0, df2s.1, df2s.0, log.1, log.0, scratch.1, scratch.0,
-            number, number.add(1), number.add(2), number.add(3), epoch.start(), nanos.start(), trials.start(), number.add(4),
-        )
-    };
-    let lend = |room: &[usize]| room.iter().map(|&n| Lent::new(n, PATTERN)).collect::<Vec<_>>();
-    // One place less of any of them is 21, before any work; after an earlier refusal it is that one.
-    let mut early = Vec::new();
-    for short in 0..6 {
-        let mut room = needed;
-        if room[short] > 0 {
-            room[short] -= 1;
-            let mut lent = lend(&room);
-            early.push(call(&mut lent));
-            lent.iter().for_each(|l| drop(l.written(0)));
-        }
+/// The places that a fit, with or without its lines, writes to.
+struct Places {
+    /// Four slices of biases, the log and the scratch: places and start.
+    floats: [(usize, *mut f64); 6],
+    text: (usize, *mut u8),
+    /// a, i, raan0, u0 and the best sum
+    numbers: *mut f64,
+    epoch: *mut i64,
+    nanos: *mut u32,
+    trials: *mut usize,
+    lines: *mut u32,
+    length: *mut usize,
+}
+
+/// What a fit wrote: the lines' refusal and text are there where it writes lines.
+struct Written {
+    refusal: u32,
+    biases: Vec<Vec<f64>>,
+    log: Vec<f64>,
+    numbers: Vec<f64>,
+    epoch: Moment,
+    lines: Option<(u32, Vec<u8>)>,
+}
+
+impl Written {
+    fn bits(&self) -> Vec<u64> {
+        self.biases.iter().chain([&self.log, &self.numbers]).flatten().map(|&v| common::lines::bits(v)).collect()
     }
-    let mut lent = lend(&needed.map(|n| n + more));
-    let refusal = call(&mut lent);
-    let worked = refusal == 0 || refusal > 21;
-    assert!(early.iter().all(|&n| n == if worked { 21 } else { refusal }), "refusal {refusal}, with less memory {early:?}");
-    let (count, number) = (trials.written(1)[0], numbers.written(5));
-    let (seconds, nanos) = (epoch.written(1)[0], nanos.written(1)[0]);
-    let written = |k: usize, n: usize| lent[k].written(if refusal == 0 { n } else { 0 });
-    let biases: Vec<Vec<f64>> = (0..4).map(|k| written(k, passes)).collect();
+}
+
+/// Lends a call so many floats and bytes, and sees that a refusal has zeros and wrote nothing, that scratch is untouched up to 21 and cleared after,
+/// and that nothing else was written. No bytes are lent to a call that writes no lines.
+fn lent_fit(room: [usize; 6], text: Option<usize>, passes: usize, call: &impl Fn(&Places) -> u32) -> Written {
+    let mut floats = room.map(|n| Lent::new(n, PATTERN));
+    let (mut out, mut lines, mut length) = (Lent::new(text.unwrap_or(0), 0xa5u8), Lent::new(1, u32::MAX), Lent::new(1, usize::MAX));
+    let (mut numbers, mut epoch, mut nanos, mut trials) = (Lent::new(5, PATTERN), Lent::new(1, TIME), Lent::new(1, u32::MAX), Lent::new(1, usize::MAX));
+    let refusal = call(&Places {
+        floats: floats.each_mut().map(|l| (l.places().len(), l.start())),
+        text: (text.unwrap_or(0), out.start()),
+        numbers: numbers.start(),
+        epoch: epoch.start(),
+        nanos: nanos.start(),
+        trials: trials.start(),
+        lines: lines.start(),
+        length: length.start(),
+    });
+    let (count, numbers) = (trials.written(1)[0], numbers.written(5));
+    let epoch = Moment { seconds: epoch.written(1)[0], nanos: nanos.written(1)[0] };
+    let written = |k: usize, n: usize| floats[k].written(if refusal == 0 { n } else { 0 });
+    let biases = (0..4).map(|k| written(k, passes)).collect();
     let log = written(4, count);
-    if worked {
-        lent[5].all(0.0);
+    if refusal == 0 || refusal > 21 {
+        floats[5].all(0.0);
     } else {
-        lent[5].written(0);
+        floats[5].written(0);
     }
     if refusal != 0 {
-        assert!(number.iter().all(|v| v.to_bits() == 0) && (seconds, nanos, count) == (0, 0, 0), "a refusal with numbers");
-        return Err(refusal);
+        let zeros = numbers.iter().all(|v| v.to_bits() == 0) && (epoch.seconds, epoch.nanos, count) == (0, 0, 0);
+        assert!(zeros, "a refusal with numbers");
     }
-    Ok(Fit {
-        orbit: [number[0], number[1], number[2], number[3]],
-        epoch: Moment { seconds, nanos }.nanos(),
-        biases: (0..passes).map(|p| [biases[0][p], biases[1][p], biases[2][p], biases[3][p]]).collect(),
-        log,
-        sum: number[4],
+    let lines = if text.is_some() {
+        let (number, n) = (lines.written(1)[0], length.written(1)[0]);
+        assert!(number == 0 || n == 0, "lines refused by {number} with {n} bytes");
+        assert!(refusal == 0 || number == refusal, "refusal {refusal}, its lines {number}");
+        Some((number, out.written(n)))
+    } else {
+        lines.written(0);
+        length.written(0);
+        None
+    };
+    Written { refusal, biases, log, numbers, epoch, lines }
+}
+
+/// The fit of so many non-empty passes and samples, with the lines under this name, if there is one; positions are not counted. One place less of any
+/// float output or of the scratch is 21, before any work; one byte less of the text is 21 for the lines alone.
+fn fitted(passes: usize, samples: usize, name: Option<&[u8]>, call: impl Fn(&Places) -> u32) -> Answer<(Fit, Answer<Vec<u8>>)> {
+    let needed = [passes, passes, passes, passes, 150, fit_scratch(samples.min(4096), passes.min(16))];
+    let text = name.map(|n| n.len() + 141);
+    let mut early = Vec::new();
+    for short in (0..6).filter(|&k| needed[k] > 0) {
+        let mut room = needed;
+        room[short] -= 1;
+        early.push(lent_fit(room, text, passes, &call).refusal);
+    }
+    let more = spare(samples);
+    let w = lent_fit(needed.map(|n| n + more), text.map(|n| n + more), passes, &call);
+    let worked = w.refusal == 0 || w.refusal > 21;
+    assert!(early.iter().all(|&n| n == if worked { 21 } else { w.refusal }), "refusal {}, with less memory {early:?}", w.refusal);
+    if w.refusal != 0 {
+        return Err(w.refusal);
+    }
+    let lines = match &w.lines {
+        Some((0, bytes)) => {
+            let less = lent_fit(needed, text.map(|n| n - 1), passes, &call);
+            assert!(less.refusal == 0 && less.lines == Some((21, vec![])), "lines in a byte too few");
+            assert!(less.bits() == w.bits(), "another fit");
+            Ok(bytes.clone())
+        }
+        Some((number, _)) => Err(*number),
+        None => Ok(vec![]),
+    };
+    let fit = Fit {
+        orbit: [w.numbers[0], w.numbers[1], w.numbers[2], w.numbers[3]],
+        epoch: w.epoch.nanos(),
+        biases: (0..passes).map(|p| [w.biases[0][p], w.biases[1][p], w.biases[2][p], w.biases[3][p]]).collect(),
+        log: w.log,
+        sum: w.numbers[4],
         positions: 0,
         ended: "",
-    })
+    };
+    Ok((fit, lines))
+}
+
+pub fn fit(s: &Set, rec: [f64; 3], a: f64, i: f64) -> Answer<Fit> {
+    let call = |p: &Places| unsafe {
+        let [dts, dfs, df1s, df2s, log, scratch] = p.floats;
+        wisvalom_fit_orbit_doppler(
+            s.counts.as_ptr(), s.counts.len(), s.times.as_ptr(), s.times.len(), s.freqs.as_ptr(), s.freqs.len(), s.centers.as_ptr(), s.centers.len(),
+            rec[0], rec[1], rec[2], a, i, dts.1, dts.0, dfs.1, dfs.0, df1s.1, df1s.0, df2s.1, df2s.0, log.1, log.0, scratch.1, scratch.0,
+            p.numbers, p.numbers.add(1), p.numbers.add(2), p.numbers.add(3), p.epoch, p.nanos, p.trials, p.numbers.add(4),
+        )
+    };
+    fitted(s.non_empty(), s.times.len(), None, call).map(|x| x.0)
+}
+
+pub fn fit_lines(s: &Set, rec: [f64; 3], a: f64, i: f64, name: &[u8]) -> Answer<(Fit, Answer<Vec<u8>>)> {
+    let call = |p: &Places| unsafe {
+        let [dts, dfs, df1s, df2s, log, scratch] = p.floats;
+        wisvalom_fit_and_format(
+            s.counts.as_ptr(), s.counts.len(), s.times.as_ptr(), s.times.len(), s.freqs.as_ptr(), s.freqs.len(), s.centers.as_ptr(), s.centers.len(),
+            rec[0], rec[1], rec[2], a, i, dts.1, dts.0, dfs.1, dfs.0, df1s.1, df1s.0, df2s.1, df2s.0, log.1, log.0, scratch.1, scratch.0,
+            name.as_ptr(), name.len(), p.text.1, p.text.0,
+            p.numbers, p.numbers.add(1), p.numbers.add(2), p.numbers.add(3), p.epoch, p.nanos, p.trials, p.numbers.add(4), p.lines, p.length,
+        )
+    };
+    fitted(s.non_empty(), s.times.len(), Some(name), call)
+}
+
+/// The sizes that the memory is lent by are those that the bytes hold; refused bytes get memory for two passes.
+pub fn determine(bytes: &[u8], centers: Vec<f64>, rec: [f64; 3], a: f64, i: f64, name: &[u8]) -> Answer<(Fit, Answer<Vec<u8>>)> {
+    let (passes, samples) = load(bytes).map_or((2, 6), |s| (s.non_empty(), s.times.len()));
+    let call = |p: &Places| unsafe {
+        let [dts, dfs, df1s, df2s, log, scratch] = p.floats;
+        wisvalom_fit_and_format_stored(
+            bytes.as_ptr(), bytes.len(), centers.as_ptr(), centers.len(),
+            rec[0], rec[1], rec[2], a, i, dts.1, dts.0, dfs.1, dfs.0, df1s.1, df1s.0, df2s.1, df2s.0, log.1, log.0, scratch.1, scratch.0,
+            name.as_ptr(), name.len(), p.text.1, p.text.0,
+            p.numbers, p.numbers.add(1), p.numbers.add(2), p.numbers.add(3), p.epoch, p.nanos, p.trials, p.numbers.add(4), p.lines, p.length,
+        )
+    };
+    fitted(passes, samples, Some(name), call)
+}
+
+/// A number: 1 in a place of its own. What is none leaves the value alone, and a refusal both.
+pub fn parse(text: &[u8]) -> Answer<Option<f64>> {
+    let (mut taken, mut out) = (Lent::new(1, u32::MAX), Lent::new(1, PATTERN));
+    let refusal = unsafe { wisvalom_parse(text.as_ptr(), text.len(), taken.start(), out.start()) };
+    if refusal != 0 {
+        taken.written(0);
+        out.written(0);
+        return Err(refusal);
+    }
+    let n = taken.written(1)[0];
+    assert!(n <= 1, "taken is {n}");
+    Ok(out.written(n as usize).first().copied())
+}
+
+/// Only the columns are written; with one place less behind them, none.
+pub fn put_fixed(v: f64, places: u64, pad: u8, room: u64, at: u64, width: u64) -> Option<Vec<u8>> {
+    let call = |out: *mut u8, room: usize| unsafe { wisvalom_put_fixed(v, places as usize, pad, out, room, at as usize, width as usize) };
+    let mut out = Lent::new(room as usize, 0xa5u8);
+    if !call(out.start(), room as usize) {
+        out.written(0);
+        return None;
+    }
+    let got = out.written_at(at as usize, width as usize);
+    let needed = (at + width) as usize;
+    let mut less = Lent::new(needed - 1, 0xa5u8);
+    assert!(!call(less.start(), needed - 1), "printed in {} places of {needed}", needed - 1);
+    less.written(0);
+    Some(got)
+}
+
+/// Seconds of 1970-01-01 from a day before the year 0000.
+pub const YEAR_1970: i64 = 719529 * 86400;
+
+pub fn rfc3339(text: &[u8]) -> Option<Moment> {
+    let (mut seconds, mut nanos) = (Lent::new(1, u64::MAX), Lent::new(1, u64::MAX));
+    let taken = unsafe { wisvalom_parse_from_rfc3339(text.as_ptr(), text.len(), seconds.start(), nanos.start()) };
+    let (s, n) = (seconds.written(taken as usize), nanos.written(taken as usize));
+    taken.then(|| Moment { seconds: s[0] as i64 - YEAR_1970, nanos: u32::try_from(n[0]).expect("nanoseconds") })
 }
 
 // Not exported yet.

@@ -1,7 +1,7 @@
 //! compare SEED COUNT [published] [KIND..]: COUNT cases of each kind that the port has (or of those named), the port
 //! against the patched original, or the published one (which differs: it shows that the comparison can see). Prints, for each kind, cases, refusals by number and differences, and the first few differing
 //! lines. Ends with 1 if there was any difference.
-use common::inputs::{fields, refuses};
+use common::inputs::{fields, first_field};
 use std::collections::BTreeMap;
 
 #[path = "../port.rs"]
@@ -69,16 +69,15 @@ fn main() {
                     println!("DIFFERENCE {kind} {seed} {k}\n  original {}\n  port     {}", said, got);
                 }
             }
-            if refuses(kind) {
+            if first_field(kind).is_some() {
                 *refusals.entry(u64::from_str_radix(&answer(&said)[..16], 16).unwrap()).or_default() += 1;
             }
         }
         let refused: Vec<String> = refusals.iter().map(|(n, c)| format!("{n}: {c}")).collect();
         println!(
-            "{kind}: {count} cases, {differences} differences, {:.1} s{}{}",
+            "{kind}: {count} cases, {differences} differences, {:.1} s{}",
             began.elapsed().as_secs_f64(),
-            if refused.is_empty() { "" } else { "; by refusal " },
-            refused.join(", ")
+            first_field(kind).map_or(String::new(), |what| format!("; {what} {}", refused.join(", ")))
         );
         all += count;
         unlike += differences;

@@ -1,5 +1,5 @@
 //! damage SEED COUNT [exact] [ENTRY..]: COUNT damaged byte inputs to each of the port's entry points that take bytes (file, load,
-//! lines, checksum), or to those named. The bytes and every output are lent between guards; after each call the guards, the bytes
+//! lines, checksum, stored, parse, rfc3339), or to those named. The bytes and every output are lent between guards; after each call the guards, the bytes
 //! and the places that the call had to leave alone are looked at, and its refusal is one that it may give. With `exact` each of them
 //! is lent from an allocation of just its size, for a run under valgrind, which then sees a read past an end too. Prints, for each
 //! entry point, the inputs by refusal; stops at the first fault.
@@ -12,6 +12,8 @@ use std::collections::BTreeMap;
 #[allow(unused_imports)]
 #[path = "../port.rs"]
 mod port;
+
+const ENTRIES: [&str; 7] = ["file", "load", "lines", "checksum", "stored", "parse", "rfc3339"];
 
 struct Run {
     exact: bool,
@@ -133,6 +135,53 @@ impl Run {
         assert!(sum <= 9, "checksum {sum}");
         0
     }
+
+    /// The fit on stored bytes; its scratch is always too short, so that none works.
+    fn stored(&mut self) -> u32 {
+        let bytes = self.input();
+        let centers = if self.r.one_in(8) { self.r.below(20) as usize } else { bytes.first().map_or(0, |&n| n as usize % 17) };
+        let (centers, name) = (vec![150.8e6; centers], [b'~'; 24]);
+        let (room, scratch) = (self.room(7, 17), self.r.below(64) as usize);
+        let mut floats = [room, room, room, room, 150, scratch].map(|n| self.lend(n, port::PATTERN));
+        let (mut text, mut numbers) = (self.lend(165, 0xa5u8), self.lend(5, port::PATTERN));
+        let (mut epoch, mut trials, mut small) = (self.lend(1, i64::MIN), self.lend(2, usize::MAX), self.lend(2, u32::MAX));
+        let refusal = self.with(&bytes, |b, n| unsafe {
+            let [dts, dfs, df1s, df2s, log, scratch] = floats.each_mut().map(|l| (l.start(), l.places().len()));
+            let (number, count, word) = (numbers.start(), trials.start(), small.start());
+            port::wisvalom_fit_and_format_stored(
+                b, n, centers.as_ptr(), centers.len(), 6371e3, 0.0, 0.0, 7e6, 1.0, dts.0, dts.1, dfs.0, dfs.1, df1s.0, df1s.1, df2s.0, df2s.1,
+                log.0, log.1, scratch.0, scratch.1, name.as_ptr(), name.len(), text.start(), 165, number, number.add(1), number.add(2),
+                number.add(3), epoch.start(), word, count, number.add(4), word.add(1), count.add(1),
+            )
+        });
+        floats.iter().for_each(|l| drop(l.written(0)));
+        text.written(0);
+        numbers.all(0.0);
+        epoch.all(0);
+        trials.all(0);
+        assert!(small.written(2) == [0, refusal], "refusal {refusal}, its lines {:?}", small.places());
+        assert!([4, 5, 8, 9, 10, 21].contains(&refusal), "refusal {refusal} of {bytes:?}");
+        refusal
+    }
+
+    fn parse(&mut self) -> u32 {
+        let bytes = self.input();
+        let (mut taken, mut out) = (self.lend(1, u32::MAX), self.lend(1, port::PATTERN));
+        let refusal = self.with(&bytes, |b, n| unsafe { port::wisvalom_parse(b, n, taken.start(), out.start()) });
+        let number = taken.written((refusal == 0) as usize).first().copied().unwrap_or(0);
+        assert!(number <= 1 && [0, 3].contains(&refusal), "taken {number}, refusal {refusal} of {bytes:?}");
+        out.written(number as usize);
+        refusal
+    }
+
+    fn rfc3339(&mut self) -> u32 {
+        let bytes = self.input();
+        let (mut seconds, mut nanos) = (self.lend(1, u64::MAX), self.lend(1, u64::MAX));
+        let taken = self.with(&bytes, |b, n| unsafe { port::wisvalom_parse_from_rfc3339(b, n, seconds.start(), nanos.start()) as u32 }) as usize;
+        seconds.written(taken);
+        assert!(nanos.written(taken).iter().all(|&n| n < 1_000_000_000), "nanoseconds of {bytes:?}");
+        0
+    }
 }
 
 fn main() {
@@ -145,13 +194,15 @@ fn main() {
     }
     let seed: u64 = words[0].parse().expect("SEED is a number");
     let count: u64 = words[1].parse().expect("COUNT is a number");
-    let entries: Vec<&str> = if words.len() > 2 { words[2..].iter().map(|s| s.as_str()).collect() } else { vec!["file", "load", "lines", "checksum"] };
+    let entries: Vec<&str> = if words.len() > 2 { words[2..].iter().map(|s| s.as_str()).collect() } else { ENTRIES.to_vec() };
     let mut all = 0;
     for entry in entries {
         let began = std::time::Instant::now();
         let pool: Vec<Vec<u8>> = (0..512u64)
             .map(|k| match entry {
-                "load" => files::stored(k, &simulator::realistic(k, 2 + k as usize % 4, 6 + k as usize % 40).set),
+                "parse" => files::decimal(&mut Random::new(k)),
+                "rfc3339" => files::moment(&mut Random::new(k)),
+                "load" | "stored" => files::stored(k, &simulator::realistic(k, 2 + k as usize % 4, 6 + k as usize % 40).set),
                 _ => files::file(seed.wrapping_mul(512).wrapping_add(k)),
             })
             .filter(|b| b.len() < 5000)
@@ -164,6 +215,9 @@ fn main() {
                 "load" => run.load(),
                 "lines" => run.lines(),
                 "checksum" => run.checksum(),
+                "stored" => run.stored(),
+                "parse" => run.parse(),
+                "rfc3339" => run.rfc3339(),
                 _ => panic!("no entry point {entry}"),
             };
             *refusals.entry(refusal).or_default() += 1;
