@@ -2,16 +2,16 @@
 use Prim.Native.Nat.{ℕ}
 use mathlib.Core.Bool.{Bool, true, false}
 use lib.Ieee.{Float}
+use Rattle.refusal.specs.Numbers as refusal
 use Rattle.decimal.specs.declared.read.Number.{Number}
 use Rattle.decimal.specs.declared.read.Number.the-variants as number
 use Rattle.rfc3339.specs.declared.Timestamp.{Timestamp}
 use Rattle.rfc3339.specs.declared.Timestamp.the-variants as timestamp
 
--- document 01's 3: too many digits, or too large an exponent
 unfoldable pub numberRefusal : Number → ℕ
 numberRefusal number.Nothing = 0
 numberRefusal (number.Value x) = 0
-numberRefusal number.Refused = 3
+numberRefusal number.Refused = refusal.number-size
 
 -- 1 for a number, 0 for what is none; refused: what was there
 unfoldable pub numberTaken : ℕ → Number → ℕ

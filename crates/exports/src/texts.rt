@@ -28,7 +28,7 @@ pub extern "C" fn wisvalom_parse(text: &[u8], taken: &mut u32, out: &mut f64) ->
             *out = x;
             0
         }
-        Number::Refused => 3,
+        Number::Refused => refusal::NUMBER_SIZE,
     }
 }
 
