@@ -8,17 +8,17 @@ use mir.Syntax.{w32}
 use mir.Val.{Fits}
 use lib.IntN.{ℤ, pos}
 use lib.Ieee.{Float, nan, binary64, ofInt}
-use lib.ListN.{length, getD}
+use lib.ListN.{length, getD, take}
 use borrow.Author.Tests.{lt-ltb, le-ltb, eq-eqb, ne-eqb}
 use Rattle.float.specs.Ops.{_⊘_}
 use Rattle.roots.specs.Root.{sqrtOf}
 use Rattle.loops.specs.Loop.{for}
-use Rattle.arguments.specs.Passes.{centerOf}
+use Rattle.arguments.specs.Passes.{nonEmpty, centerOf}
 use Rattle.moment.specs.Sample.{timeInRange, momentAt}
 use Rattle.moment.specs.declared.Moment.{Moment}
 use Rattle.frame.specs.declared.Vec3.{Vec3}
 use Rattle.solution.specs.declared.SolvedOrbit.{SolvedOrbit}
-use Rattle.command.specs.Report.{noMoment, momentIn, sampleMoment, passAt, squaresOf, walkPass, withPass, opening, meanRoot, rmsOf}
+use Rattle.command.specs.Report.{noMoment, momentIn, sampleMoment, passAt, squaresOf, walkPass, withPass, opening, meanRoot, rmsOf, noBiases, biasesOf}
 use Rattle.command.specs.declared.report.Pass.{Pass}
 use Rattle.command.specs.declared.report.Walk.{Walk}
 
@@ -85,3 +85,20 @@ module _ (counts : List ℕ) (times : List ℤ) (freqs centers : List Float) (re
       g ∙ ap (λ (m : Float). sqrtOf (w .sum ⊘ m)) s ∙ ap meanRoot e
       ∙ ap (λ (v : Float). meanRoot (for 0 (length counts) (withPass times freqs v orbit rec dts dfs df1s df2s counts) opening)) c
       ∙ sym (whole h k)
+
+-- ---- a pass's biases
+
+module _ (counts : List ℕ) (p : ℕ) (dts dfs df1s df2s : List Float) where
+  pub over-sixteen : 16 < length counts → biasesOf counts p dts dfs df1s df2s ≡ noBiases
+  unfolding biasesOf
+  over-sixteen h = simp (lt-ltb 16 (length counts) h)
+
+  pub no-samples : length counts ≤ 16 → getD counts p 0 ≡ 0 → biasesOf counts p dts dfs df1s df2s ≡ noBiases
+  unfolding biasesOf
+  no-samples h e = simp (le-ltb 16 (length counts) h, eq-eqb (getD counts p 0) 0 e)
+
+  pub with-samples : length counts ≤ 16 → (getD counts p 0 ≡ 0 → ⊥) → {q : ℕ} {t f f1 f2 : Float} → q ≡ length (nonEmpty (take p counts))
+      → t ≡ getD dts q nan → f ≡ getD dfs q nan → f1 ≡ getD df1s q nan → f2 ≡ getD df2s q nan
+      → record { sampled = true; dt = t; df = f; df1 = f1; df2 = f2 } ≡ biasesOf counts p dts dfs df1s df2s
+  unfolding biasesOf
+  with-samples h k e a b c d = rw (le-ltb 16 (length counts) h, ne-eqb (getD counts p 0) 0 k, a, b, c, d, e)

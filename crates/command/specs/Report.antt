@@ -1,10 +1,10 @@
 -- The numbers of the report: how far the samples lie from what the returned orbit and biases predict.
 use Prim.Native.Nat.{ℕ, zero, suc, _+_}
-use mathlib.Core.Bool.{cond, not, _||_}
+use mathlib.Core.Bool.{true, false, cond, not, _||_}
 use mathlib.Core.List.{List}
 use lib.Dec.{ltb, eqb}
 use lib.IntN.{ℤ, pos}
-use lib.ListN.{length, getD}
+use lib.ListN.{length, getD, take}
 use lib.Ieee.{Float, nan, binary64, ofInt, toUnsigned}
 use Rattle.float.specs.Ops.{_⊕_, _⊖_, _⊗_, _⊘_, bits, absOf, roundOf}
 use Rattle.roots.specs.Root.{sqrtOf}
@@ -15,8 +15,9 @@ use Rattle.frame.specs.declared.Vec3.{Vec3}
 use Rattle.orbit.specs.Doppler.{predictFrequencyPolyOf}
 use Rattle.orbit.specs.declared.doppler.Prediction.{Prediction}
 use Rattle.orbit.specs.declared.doppler.Prediction.the-variants.{Frequency, Refused}
-use Rattle.arguments.specs.Passes.{centerOf}
+use Rattle.arguments.specs.Passes.{nonEmpty, centerOf}
 use Rattle.solution.specs.declared.SolvedOrbit.{SolvedOrbit}
+use Rattle.command.specs.declared.report.Biases.{Biases}
 use Rattle.command.specs.declared.report.Pass.{Pass}
 use Rattle.command.specs.declared.report.Walk.{Walk}
 
@@ -88,6 +89,17 @@ unfoldable pub rmsOf : List ℕ → List ℤ → List Float → List Float → V
 rmsOf counts times freqs centers rec orbit dts dfs df1s df2s =
     cond (ltb 16 (length counts) || not (eqb (length centers) (length counts))) nan
     (meanRoot (for 0 (length counts) (withPass times freqs (centerOf counts centers) orbit rec dts dfs df1s df2s counts) opening))
+
+-- Pass p's biases: an empty pass has none, so they stand behind those of the non-empty passes before it.
+abbrev pub noBiases : Biases
+noBiases = record { sampled = false; dt = nan; df = nan; df1 = nan; df2 = nan }
+
+abbrev pub biasesAt : List Float → List Float → List Float → List Float → ℕ → Biases
+biasesAt dts dfs df1s df2s q = record { sampled = true; dt = getD dts q nan; df = getD dfs q nan; df1 = getD df1s q nan; df2 = getD df2s q nan }
+
+unfoldable pub biasesOf : List ℕ → ℕ → List Float → List Float → List Float → List Float → Biases
+biasesOf counts p dts dfs df1s df2s =
+    cond (ltb 16 (length counts) || eqb (getD counts p 0) 0) noBiases (biasesAt dts dfs df1s df2s (length (nonEmpty (take p counts))))
 
 -- the size of v in parts of 1/per, to the nearest
 unfoldable pub unitsOf : Float → Float → ℕ

@@ -3,7 +3,7 @@ ghost use mathlib.Core.Path.{_≡_};
 ghost use Prim.Native.Nat.{_+_, _≤_};
 ghost use lib.ListN.{getD};
 ghost use lib.Ieee.{nan};
-ghost use Rattle.command.specs.Report.{momentIn, sampleMoment, frequencyOf, residualOf, squareOf, squaresOf, walkPass, rmsOf, unitsOf};
+ghost use Rattle.command.specs.Report.{momentIn, sampleMoment, frequencyOf, residualOf, squareOf, squaresOf, walkPass, rmsOf, noBiases, biasesOf, unitsOf};
 use frame::Vec3;
 use moment::Moment;
 use orbit::doppler;
@@ -19,6 +19,15 @@ pub struct Pass {
     pub center_freq: f64,
     pub orbit: SolvedOrbit,
     pub rec_ecef: Vec3,
+}
+
+// The biases of a pass that has samples; NaN of one that has none.
+pub struct Biases {
+    pub sampled: bool,
+    pub dt: f64,
+    pub df: f64,
+    pub df1: f64,
+    pub df2: f64,
 }
 
 // What a walk over the passes has come to: the squares added, the next sample, and the number of non-empty passes.
@@ -202,6 +211,50 @@ pub fn rms(
     }
     let n = w.at;
     roots::sqrt(w.sum / std::num::nearest_u64_to_f64(n as u64))
+}
+
+fn no_biases() -> Biases
+    ensures { λ r. ⌜ r ≡ noBiases ⌝ }
+{
+    Biases {
+        sampled: false,
+        dt: 0.0 / 0.0,
+        df: 0.0 / 0.0,
+        df1: 0.0 / 0.0,
+        df2: 0.0 / 0.0,
+    }
+}
+
+// Those of pass p among the biases of a fit, which has some for each non-empty pass. Past the last pass, or with over 16, there are
+// none.
+pub fn biases_of(
+    counts: &[u32],
+    p: usize,
+    dts: &[f64],
+    dfs: &[f64],
+    df1s: &[f64],
+    df2s: &[f64],
+) -> Biases
+    ensures { λ r. ⌜ r ≡ biasesOf (now (counts .entry)) p (now (dts .entry)) (now (dfs .entry)) (now (df1s .entry)) (now (df2s .entry)) ⌝ }
+{
+    if 16 < counts.len() {
+        return no_biases();
+    }
+    if counts.len() <= p {
+        return no_biases();
+    }
+    if counts[p] == 0 {
+        return no_biases();
+    }
+    let before = arguments::non_empty(&counts[..p]);
+    let q = before.passes;
+    Biases {
+        sampled: true,
+        dt: number_at(dts, q),
+        df: number_at(dfs, q),
+        df1: number_at(df1s, q),
+        df2: number_at(df2s, q),
+    }
 }
 
 // The size of v in parts of 1/per, to the nearest, for printing.
