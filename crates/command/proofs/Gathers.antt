@@ -32,7 +32,7 @@ line-zero (suc a) r e =
     let z : suc a ≡ 0 = rw f at e in
     absurd (omega arith)
 
-test-zero : (b : Bool) (k r : ℕ) → cond b (suc k) r ≡ 0 → (b ≡ false) × (r ≡ 0)
+pub test-zero : (b : Bool) (k r : ℕ) → cond b (suc k) r ≡ 0 → (b ≡ false) × (r ≡ 0)
 test-zero true k r e = absurd (omega (arith, e))
 test-zero false k r e = (refl, e)
 
@@ -220,6 +220,10 @@ module _ (file : List ℕ) (p s : ℕ) (counts : List ℕ) (times : List ℤ) (f
                 centred = put-one p centers (q .«center_freq») b ∙ ap (λ (v : PassFile). take p centers ++ (v .«center_freq» ∷ [])) x;
                 timed = put-new s (length times - s) (scanned file .count) times t (timesOf (lines 0 file)) d refl (n .times) (y .times) (rw z at (g .put-times));
                 heard = put-new s (length freqs - s) (scanned file .count) freqs f (freqsOf (lines 0 file)) e refl (n .freqs) (y .freqs) (rw z at (g .put-freqs));
+                counts-room = a;
+                centers-room = b;
+                times-room = omega (arith, d, y .times);
+                freqs-room = omega (arith, e, y .freqs);
               };
           kept = λ (y : 0 < q .refusal). absurd (omega (arith, k, y));
         }

@@ -1,3 +1,5 @@
 pub mod Lists
 pub mod Gathers
+pub mod Sets
+pub mod Counted
 pub mod Reports

@@ -9,7 +9,7 @@ use lib.Seq.{take-suc, drop-cons, set-at, take-length, length-take-le, take-appe
 use mathlib.Core.Bool.{true, false}
 use Rattle.passes.specs.File.{nameOf}
 use Rattle.passes.specs.declared.file.PassFile.{PassFile}
-use Rattle.command.specs.Gather.{Named, Keeps}
+use Rattle.command.specs.Gather.{First, Keeps}
 use Rattle.command.specs.declared.gather.Name.{Name}
 
 pub copy-more : (from old out : List ℕ) (p : ℕ) → p < length from → p < length old → out ≡ take p from ++ drop p old
@@ -30,7 +30,7 @@ pub cut : (l : List ℕ) (m : ℕ) → m < length l → length (take m l) ≡ m
 cut l m h = length-take-le m l (omega arith)
 
 -- so the first n bytes of the array are the name
-pub named : (from old out : List ℕ) (n : ℕ) → length from ≡ n → n ≤ length old → out ≡ from ++ drop (length from) old → Named from out n
+pub named : (from old out : List ℕ) (n : ℕ) → length from ≡ n → n ≤ length old → out ≡ from ++ drop (length from) old → First n out from
 named from old out n e r h =
     record {
       room = rw (h, length-append, length-drop) (omega (arith, e, r));
@@ -40,11 +40,11 @@ named from old out n e r h =
 -- ---- the name kept
 
 pub kept-name : (name : Name) (file : List ℕ) (r : PassFile) (out : List ℕ) → name .seen ≡ true → Keeps name file r out out name
-kept-name name file r out e = record { seen = simp e; is = simp e }
+kept-name name file r out e = record { seen = simp e; is = simp e; room = λ h. h }
 
 pub no-new-name : (name : Name) (file : List ℕ) (r : PassFile) (out : List ℕ) → name .seen ≡ false → r .«name_seen» ≡ false → Keeps name file r out out name
-no-new-name name file r out e g = record { seen = simp (e, g); is = simp (e, g) }
+no-new-name name file r out e g = record { seen = simp (e, g); is = simp (e, g); room = λ h. h }
 
 pub new-name : (name : Name) (file : List ℕ) (r : PassFile) (out out′ : List ℕ) {from : List ℕ} {n : ℕ} → name .seen ≡ false → r .«name_seen» ≡ true → from ≡ nameOf file r
-    → Named (take (length out) from) out′ n → Keeps name file r out out′ (record { seen = true; size = n })
-new-name name file r out out′ e g f h = record { seen = simp (e, g); is = h .is ∙ simp (e, g, f) }
+    → First n out′ (take (length out) from) → Keeps name file r out out′ (record { seen = true; size = n })
+new-name name file r out out′ e g f h = record { seen = simp (e, g); is = h .is ∙ simp (e, g, f); room = λ _. h .room }

@@ -1,20 +1,74 @@
 -- Pass files gathered into one pass set, a pass for each file.
 use Prim.Native.Nat.{ℕ, _+_, _-_, _<_, _≤_}
 use mathlib.Core.Path.{_≡_}
-use mathlib.Core.Bool.{Bool, cond, _||_}
-use mathlib.Core.List.{List, [], _∷_, _++_}
+use mathlib.Core.Bool.{Bool, true, false, cond, _||_}
+use mathlib.Core.List.{List, [], _∷_, _++_, map, flatMap}
+use mathlib.Core.Option.{Option, none, some}
 use lib.Dec.{leb, ltb, eqb}
 use lib.IntN.{ℤ}
 use lib.Ieee.{Float}
 use lib.ListN.{length, take}
 use Rattle.refusal.specs.Numbers as refusal
+use Rattle.loops.specs.Loop.{isSome, orElse}
 use Rattle.passes.specs.Text.{lines}
 use Rattle.passes.specs.File.{scanned, zeros, timesOf, freqsOf, nameOf}
 use Rattle.passes.specs.File as File
 use Rattle.passes.specs.declared.file.PassFile.{PassFile}
 use Rattle.command.specs.declared.gather.Name.{Name}
+use Rattle.command.specs.declared.gather.Gathered.{Gathered}
 
--- ---- passes
+-- ---- the pass set of a list of files
+
+-- what a file brings: a count, a centre frequency and samples
+abbrev pub countIn : List ℕ → ℕ
+countIn file = scanned file .count
+
+abbrev pub centerIn : List ℕ → Float
+centerIn file = scanned file .«center_freq»
+
+abbrev pub timesIn : List ℕ → List ℤ
+timesIn file = timesOf (lines 0 file)
+
+abbrev pub freqsIn : List ℕ → List Float
+freqsIn file = freqsOf (lines 0 file)
+
+-- the first name that one of the files has
+unfoldable pub firstName : List (List ℕ) → Option (List ℕ)
+firstName [] = none
+firstName (file ∷ files) = cond (scanned file .«name_seen») (some (nameOf file (scanned file))) (firstName files)
+
+-- UNKNOWN
+abbrev pub unknown : List ℕ
+unknown = 85 ∷ 78 ∷ 75 ∷ 78 ∷ 79 ∷ 87 ∷ 78 ∷ []
+
+-- the arrays that are lent
+pub record Arrays : Type 0 where
+  pub counts : List ℕ
+  pub times : List ℤ
+  pub freqs : List Float
+  pub centers : List Float
+  pub name : List ℕ
+
+abbrev pub arrays : List ℕ → List ℤ → List Float → List Float → List ℕ → Arrays
+arrays counts times freqs centers name = record { counts = counts; times = times; freqs = freqs; centers = centers; name = name }
+
+-- the first n elements are these
+pub record First {A : Type 0} (n : ℕ) (all these : List A) : Type 0 where
+  pub room : n ≤ length all
+  pub is : take n all ≡ these
+
+-- The first places hold the pass set of the files: counts and centres one for each, samples one file's after the other's, and the
+-- first name, or UNKNOWN, as far as there is room.
+pub record Holds (files : List (List ℕ)) (g : Gathered) (a : Arrays) : Type 0 where
+  pub passes : g .passes ≡ length files
+  pub counted : First (g .passes) (a .counts) (map countIn files)
+  pub centred : First (g .passes) (a .centers) (map centerIn files)
+  pub timed : First (g .samples) (a .times) (flatMap timesIn files)
+  pub heard : First (g .samples) (a .freqs) (flatMap freqsIn files)
+  pub seen : g .name .seen ≡ isSome (firstName files)
+  pub named : First (g .name .size) (a .name) (take (length (a .name)) (orElse (firstName files) unknown))
+
+-- ---- a file's pass behind p passes and s samples
 
 -- p passes and s samples are there: no room for another pass, or more samples than room, in arrays of these lengths
 unfoldable pub isFull : ℕ → ℕ → ℕ → ℕ → ℕ → ℕ → Bool
@@ -33,10 +87,14 @@ answer k file = cond (eqb k 0) (scanned file) (zeros k)
 
 -- an accepted file is appended to the p passes and s samples that stand in the arrays
 pub record Appended (file : List ℕ) (p s : ℕ) (counts counts′ : List ℕ) (times times′ : List ℤ) (freqs freqs′ centers centers′ : List Float) : Type 0 where
-  pub counted : take (p + 1) counts′ ≡ take p counts ++ (scanned file .count ∷ [])
-  pub centred : take (p + 1) centers′ ≡ take p centers ++ (scanned file .«center_freq» ∷ [])
-  pub timed : take (s + scanned file .count) times′ ≡ take s times ++ timesOf (lines 0 file)
-  pub heard : take (s + scanned file .count) freqs′ ≡ take s freqs ++ freqsOf (lines 0 file)
+  pub counted : take (p + 1) counts′ ≡ take p counts ++ (countIn file ∷ [])
+  pub centred : take (p + 1) centers′ ≡ take p centers ++ (centerIn file ∷ [])
+  pub timed : take (s + countIn file) times′ ≡ take s times ++ timesIn file
+  pub heard : take (s + countIn file) freqs′ ≡ take s freqs ++ freqsIn file
+  pub counts-room : p < length counts
+  pub centers-room : p < length centers
+  pub times-room : s + countIn file ≤ length times
+  pub freqs-room : s + countIn file ≤ length freqs
 
 -- a refused one leaves them as they were
 pub record Kept (counts counts′ : List ℕ) (times times′ : List ℤ) (freqs freqs′ centers centers′ : List Float) : Type 0 where
@@ -50,18 +108,42 @@ pub record Adds (file : List ℕ) (p s : ℕ) (counts counts′ : List ℕ) (tim
   pub appended : r .refusal ≡ 0 → Appended file p s counts counts′ times times′ freqs freqs′ centers centers′
   pub kept : 0 < r .refusal → Kept counts counts′ times times′ freqs freqs′ centers centers′
 
--- ---- the name
-
--- UNKNOWN
-abbrev pub unknown : List ℕ
-unknown = 85 ∷ 78 ∷ 75 ∷ 78 ∷ 79 ∷ 87 ∷ 78 ∷ []
-
--- the first n of these bytes are the name
-pub record Named (name bytes : List ℕ) (n : ℕ) : Type 0 where
-  pub room : n ≤ length bytes
-  pub is : take n bytes ≡ name
+-- ---- its name
 
 -- a name that was seen stays; else the file's is taken, if it has one, as far as there is room
 pub record Keeps (name : Name) (file : List ℕ) (r : PassFile) (bytes bytes′ : List ℕ) (n : Name) : Type 0 where
   pub seen : n .seen ≡ (name .seen || r .«name_seen»)
   pub is : take (n .size) bytes′ ≡ cond (name .seen) (take (name .size) bytes) (cond (r .«name_seen») (take (length bytes) (nameOf file r)) (take (name .size) bytes))
+  pub room : name .size ≤ length bytes → n .size ≤ length bytes′
+
+-- ---- one file more
+
+-- before the first file, whatever the other arrays hold
+pub record Opens (bytes : List ℕ) (g : Gathered) : Type 0 where
+  pub going : g .failed ≡ false
+  pub holds : (counts : List ℕ) (times : List ℤ) (freqs centers : List Float) → Holds [] g (arrays counts times freqs centers bytes)
+
+-- the set as it was, with the number k of a refusal
+abbrev pub stoppedBy : ℕ → Gathered → Gathered
+stoppedBy k g = record { failed = true; refusal = k; passes = g .passes; samples = g .samples; name = g .name }
+
+-- What `add` promises: a refused file leaves all as it was, and an accepted one is appended to whatever files the set is of.
+pub record Extends (file : List ℕ) (g : Gathered) (a a′ : Arrays) (r : Gathered) : Type 0 where
+  pub says : r .refusal ≡ refusalOf (isFull (g .passes) (g .samples) (length (a .counts)) (length (a .times)) (length (a .freqs)) (length (a .centers))) file (length (a .times) - g .samples) (length (a .freqs) - g .samples)
+  pub stopped : 0 < r .refusal → r ≡ stoppedBy (r .refusal) g
+  pub kept : 0 < r .refusal → a′ ≡ a
+  pub going : r .refusal ≡ 0 → r .failed ≡ false
+  pub appended : r .refusal ≡ 0 → (files : List (List ℕ)) → Holds files g a → Holds (files ++ file ∷ []) r a′
+
+-- ---- all files, where a contract cannot say what a file holds
+
+-- the arrays hold n files, or fewer if one failed
+pub record Gathers (n : ℕ) (g : Gathered) (a : Arrays) : Type 0 where
+  pub files : List (List ℕ)
+  pub holds : Holds files g a
+  pub most : length files ≤ n
+  pub all : g .failed ≡ false → length files ≡ n
+
+-- one file more, or a failure
+pub record Continues (g : Gathered) (a a′ : Arrays) (r : Gathered) : Type 0 where
+  pub next : (n : ℕ) → g .failed ≡ false → Gathers n g a → Gathers (n + 1) r a′

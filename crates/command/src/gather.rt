@@ -4,7 +4,7 @@ ghost use mathlib.Core.List.{_++_};
 ghost use Prim.Native.Nat.{_≤_};
 ghost use lib.ListN.{length, take, drop};
 ghost use Rattle.passes.specs.File.{zeros};
-ghost use Rattle.command.specs.Gather.{unknown, Adds, Named, Keeps};
+ghost use Rattle.command.specs.Gather.{arrays, First, Adds, Keeps, Opens, stoppedBy, Extends};
 use passes::file;
 use passes::file::PassFile;
 
@@ -12,6 +12,16 @@ use passes::file::PassFile;
 pub struct Name {
     pub seen: bool,
     pub size: usize,
+}
+
+// The set so far, which stands in the first places of the arrays. `failed`: the last file added nothing, by this refusal, or 0 where
+// it could not be read.
+pub struct Gathered {
+    pub failed: bool,
+    pub refusal: u32,
+    pub passes: usize,
+    pub samples: usize,
+    pub name: Name,
 }
 
 fn refused(refusal: u32) -> PassFile
@@ -29,7 +39,7 @@ fn refused(refusal: u32) -> PassFile
 
 // Reads one file more: its samples go behind the s samples that are there, its count and centre behind those of p passes. 5 says
 // that one of the arrays is full; the command lends room for 16 passes and 4,096 samples.
-pub fn add_file(
+fn add_file(
     file: &[u8],
     p: usize,
     s: usize,
@@ -78,7 +88,7 @@ fn copy(from: &[u8], out: &mut [u8])
 
 // The same of as many bytes as find room, and how many these are.
 fn put(from: &[u8], out: &mut [u8]) -> usize
-    ensures { λ r. ⌜ Named (take (length (now (out .entry))) (now (from .entry))) (now (out .exit)) r ⌝ }
+    ensures { λ r. ⌜ First r (now (out .exit)) (take (length (now (out .entry))) (now (from .entry))) ⌝ }
 {
     let n = from.len();
     let m = out.len();
@@ -90,16 +100,8 @@ fn put(from: &[u8], out: &mut [u8]) -> usize
     n
 }
 
-// Before the first file: UNKNOWN. The command lends 256 bytes, and no line of a file has more.
-pub fn no_name(out: &mut [u8]) -> Name
-    ensures { λ r. ⌜ Named (take (length (now (out .entry))) unknown) (now (out .exit)) (r .size) ⌝ }
-{
-    let size = put(b"UNKNOWN", out);
-    Name { seen: false, size }
-}
-
 // After a file: its name, if it has one and none was seen before.
-pub fn keep_name(name: Name, file: &[u8], r: PassFile, out: &mut [u8]) -> Name
+fn keep_name(name: Name, file: &[u8], r: PassFile, out: &mut [u8]) -> Name
     ensures { λ n. ⌜ Keeps name (now (file .entry)) r (now (out .entry)) (now (out .exit)) n ⌝ }
 {
     if name.seen {
@@ -110,4 +112,61 @@ pub fn keep_name(name: Name, file: &[u8], r: PassFile, out: &mut [u8]) -> Name
     }
     let size = put(file::name(file, r), out);
     Name { seen: true, size }
+}
+
+// Before the first file: no pass, and UNKNOWN. The command lends 256 bytes for the name, and no line of a file has more.
+pub fn no_files(name: &mut [u8]) -> Gathered
+    ensures { λ r. ⌜ Opens (now (name .exit)) r ⌝ }
+{
+    let size = put(b"UNKNOWN", name);
+    let unknown = Name { seen: false, size };
+    Gathered {
+        failed: false,
+        refusal: 0,
+        passes: 0,
+        samples: 0,
+        name: unknown,
+    }
+}
+
+pub fn stopped(g: Gathered, refusal: u32) -> Gathered
+    ensures { λ r. ⌜ r ≡ stoppedBy refusal g ⌝ }
+{
+    let name = g.name;
+    Gathered {
+        failed: true,
+        refusal,
+        passes: g.passes,
+        samples: g.samples,
+        name,
+    }
+}
+
+// Adds a file to the set.
+pub fn add(
+    file: &[u8],
+    g: Gathered,
+    counts: &mut [u32],
+    times: &mut [i64],
+    freqs: &mut [f64],
+    centers: &mut [f64],
+    name: &mut [u8],
+) -> Gathered
+    ensures { λ r. ⌜ Extends (now (file .entry)) g (arrays (now (counts .entry)) (now (times .entry)) (now (freqs .entry)) (now (centers .entry)) (now (name .entry)))
+        (arrays (now (counts .exit)) (now (times .exit)) (now (freqs .exit)) (now (centers .exit)) (now (name .exit))) r ⌝ }
+{
+    let r = add_file(file, g.passes, g.samples, counts, times, freqs, centers);
+    let k = r.refusal;
+    if k != 0 {
+        return stopped(g, k);
+    }
+    let n = r.count;
+    let kept = keep_name(g.name, file, r, name);
+    Gathered {
+        failed: false,
+        refusal: 0,
+        passes: g.passes + 1,
+        samples: g.samples + n,
+        name: kept,
+    }
 }

@@ -1,18 +1,15 @@
-// The files that the command names, read one after the other into one pass set.
+// The files that the command names: each is opened, read and closed, and `command::gather` adds it to the pass set.
+ghost use mathlib.Core.Path.{_≡_};
+ghost use Prim.Native.Nat.{_≤_};
+ghost use lib.ListN.{length};
+ghost use Rattle.io.specs.Counts.{Counts};
+ghost use Rattle.command.specs.Gather.{arrays, Continues, Gathers};
 use crate::say;
 use command::gather;
-use command::gather::Name;
+use command::gather::Gathered;
 
 // The bytes of the largest file that is read: 4,096 lines of 256 bytes with CR LF take 1,056,768.
 const MAX_FILE: usize = 1114112;
-
-// The set so far. A failure has been told on standard error.
-pub struct Gathered {
-    pub failed: bool,
-    pub passes: usize,
-    pub samples: usize,
-    pub name: Name,
-}
 
 // How many bytes a file has, or that it could not be read.
 struct Content {
@@ -20,18 +17,10 @@ struct Content {
     size: usize,
 }
 
-fn stopped(g: Gathered) -> Gathered {
-    let name = g.name;
-    Gathered {
-        failed: true,
-        passes: g.passes,
-        samples: g.samples,
-        name,
-    }
-}
-
 // Reads up to the file's end, or until the buffer is full.
-fn read_all(fd: i32, buf: &mut [u8]) -> Content {
+fn read_all(fd: i32, buf: &mut [u8]) -> Content
+    ensures { λ r. ⌜ Counts (r .size) (now (buf .exit)) ⌝ }
+{
     let mut at = 0usize;
     while at < buf.len() {
         let got = libc::read(fd, &mut buf[at..]);
@@ -62,68 +51,34 @@ fn read_all(fd: i32, buf: &mut [u8]) -> Content {
     }
 }
 
-// The file's pass and name are added to what is there.
-fn add(
-    file: &[u8],
-    path: &[u8],
-    g: Gathered,
-    counts: &mut [u32],
-    times: &mut [i64],
-    freqs: &mut [f64],
-    centers: &mut [f64],
-    name: &mut [u8],
-) -> Gathered {
-    let r = gather::add_file(file, g.passes, g.samples, counts, times, freqs, centers);
-    let k = r.refusal;
-    if k != 0 {
-        say::file_refusal(path, k);
-        return stopped(g);
-    }
-    let n = r.count;
-    let kept = gather::keep_name(g.name, file, r, name);
-    Gathered {
-        failed: false,
-        passes: std::num::wrapping_add_usize(g.passes, 1),
-        samples: std::num::wrapping_add_usize(g.samples, n),
-        name: kept,
-    }
+// A byte more than the largest file, by which a larger one is known.
+fn buffer() -> [u8; 1114113]
+    ensures { λ r. ⌜ 1114113 ≡ length r ⌝ }
+{
+    [0; 1114113]
 }
 
-fn add_content(
-    fd: i32,
-    bytes: &mut [u8; 1114113],
-    path: &[u8],
-    g: Gathered,
-    counts: &mut [u32],
-    times: &mut [i64],
-    freqs: &mut [f64],
-    centers: &mut [f64],
-    name: &mut [u8],
-) -> Gathered {
-    let c = read_all(fd, bytes);
+// The same of a file that is not too large. Why one is not taken has been told.
+fn read_file(fd: i32, path: &[u8], buf: &mut [u8]) -> Content
+    ensures { λ r. ⌜ Counts (r .size) (now (buf .exit)) ⌝ }
+{
+    let c = read_all(fd, buf);
     if c.failed {
         os::fail(path);
-        return stopped(g);
+        return c;
     }
-    let n = c.size;
-    if MAX_FILE < n {
+    if MAX_FILE < c.size {
         say::file(path, b"larger than 1114112 bytes");
-        return stopped(g);
+        return Content {
+            failed: true,
+            size: 0,
+        };
     }
-    add(
-        crate::first_bytes(bytes, n),
-        path,
-        g,
-        counts,
-        times,
-        freqs,
-        centers,
-        name,
-    )
+    c
 }
 
-// The buffer is lent as an array, of which the prover need not count the bytes; it has a byte more than the largest file.
-fn add_open(
+// The open file's content is added.
+fn add_content(
     fd: i32,
     path: &[u8],
     g: Gathered,
@@ -132,12 +87,43 @@ fn add_open(
     freqs: &mut [f64],
     centers: &mut [f64],
     name: &mut [u8],
-) -> Gathered {
-    let mut bytes = [0u8; 1114113];
-    add_content(fd, &mut bytes, path, g, counts, times, freqs, centers, name)
+) -> Gathered
+    ensures { λ r. ⌜ Continues g (arrays (now (counts .entry)) (now (times .entry)) (now (freqs .entry)) (now (centers .entry)) (now (name .entry)))
+        (arrays (now (counts .exit)) (now (times .exit)) (now (freqs .exit)) (now (centers .exit)) (now (name .exit))) r ⌝ }
+{
+    let mut bytes = buffer();
+    let c = read_file(fd, path, &mut bytes);
+    if c.failed {
+        return gather::stopped(g, 0);
+    }
+    let n = c.size;
+    let r = gather::add(&bytes[..n], g, counts, times, freqs, centers, name);
+    say::file_refusal(path, r.refusal);
+    r
 }
 
-// The file that word i names.
+// A file that a word names: the name's length, and a descriptor, negative where it could not be opened, which has been told.
+struct Opened {
+    fd: i32,
+    length: usize,
+}
+
+fn open_word(i: usize, path: &mut [u8]) -> Opened
+    ensures { λ r. ⌜ Counts (r .length) (now (path .exit)) ⌝ }
+{
+    let length = os::arg(i, path);
+    if os::errno() != 0 {
+        os::fail(b"fit_passes: a file's name");
+        return Opened { fd: -1, length: 0 };
+    }
+    let fd = os::open_read(&path[..length]);
+    if fd < 0 {
+        os::fail(&path[..length]);
+    }
+    Opened { fd, length }
+}
+
+// The file that word i names is added.
 fn add_word(
     i: usize,
     g: Gathered,
@@ -146,24 +132,24 @@ fn add_word(
     freqs: &mut [f64],
     centers: &mut [f64],
     name: &mut [u8],
-) -> Gathered {
+) -> Gathered
+    ensures { λ r. ⌜ Continues g (arrays (now (counts .entry)) (now (times .entry)) (now (freqs .entry)) (now (centers .entry)) (now (name .entry)))
+        (arrays (now (counts .exit)) (now (times .exit)) (now (freqs .exit)) (now (centers .exit)) (now (name .exit))) r ⌝ }
+{
     let mut path = io::buffer();
-    let length = os::arg(i, &mut path);
-    if os::errno() != 0 {
-        os::fail(b"fit_passes: a file's name");
-        return stopped(g);
-    }
-    let fd = os::open_read(&path[..length]);
+    let f = open_word(i, &mut path);
+    let fd = f.fd;
     if fd < 0 {
-        os::fail(&path[..length]);
-        return stopped(g);
+        return gather::stopped(g, 0);
     }
-    let r = add_open(fd, &path[..length], g, counts, times, freqs, centers, name);
+    let n = f.length;
+    let r = add_content(fd, &path[..n], g, counts, times, freqs, centers, name);
     libc::close(fd);
     r
 }
 
-// All files: n words from the sixth on.
+// All n files, from the sixth word on, in their order; none after one that fails. What a file holds no contract can say: there are
+// some n contents of which the arrays hold the set. `main` meets the `requires` by proof.
 pub fn gather_files(
     n: usize,
     counts: &mut [u32],
@@ -171,24 +157,13 @@ pub fn gather_files(
     freqs: &mut [f64],
     centers: &mut [f64],
     name: &mut [u8],
-) -> Gathered {
-    let opening = gather::no_name(name);
-    let mut g = Gathered {
-        failed: false,
-        passes: 0,
-        samples: 0,
-        name: opening,
-    };
+) -> Gathered
+    requires { ⌜ n ≤ 16 ⌝ }
+    ensures { λ r. ⌜ Gathers n r (arrays (now (counts .exit)) (now (times .exit)) (now (freqs .exit)) (now (centers .exit)) (now (name .exit))) ⌝ }
+{
+    let mut g = gather::no_files(name);
     for i in 0..n {
-        g = add_word(
-            std::num::wrapping_add_usize(i, 5),
-            g,
-            counts,
-            times,
-            freqs,
-            centers,
-            name,
-        );
+        g = add_word(i + 5, g, counts, times, freqs, centers, name);
         if g.failed {
             return g;
         }

@@ -1,5 +1,6 @@
 // What the command says on standard error.
 use command::report;
+use command::report::Biases;
 use libc::STDERR_FILENO;
 
 fn write(text: &[u8]) {
@@ -13,6 +14,10 @@ pub fn usage() {
     );
 }
 
+pub fn too_many() {
+    write(b"fit_passes: more than 16 files\n");
+}
+
 // A message about one file.
 pub fn file(path: &[u8], what: &[u8]) {
     write(path);
@@ -21,19 +26,31 @@ pub fn file(path: &[u8], what: &[u8]) {
     write(b"\n");
 }
 
-// The sentence of a refusal.
-fn sentence(k: u32) {
+// The sentence of a refusal: of a file, of the fit's input, or of its work.
+fn file_sentence(k: u32) {
     match k {
         1 => write(b"a byte above 127"),
         2 => write(b"a line of more than 256 bytes"),
         3 => write(b"a number of more than 19 digits, or with an exponent outside -30 to 30"),
         4 => write(b"a moment outside 1957 to 2056"),
         5 => write(b"more than 16 passes or 4096 samples"),
+        _ => write(b"refused"),
+    }
+}
+
+fn input_sentence(k: u32) {
+    match k {
         6 => write(b"the mast's position or the inclination is not a number"),
         7 => write(b"the inclination is outside 0 to 180 degrees"),
         8 => write(b"a sample's frequency is not a number"),
         9 => write(b"fewer than two passes have samples"),
         10 => write(b"fewer samples than four and one for each pass that has any"),
+        _ => write(b"refused"),
+    }
+}
+
+fn work_sentence(k: u32) {
+    match k {
         11 => write(
             b"the orbit cannot be printed, or the name is over 24 bytes or has a byte outside 32 to 126",
         ),
@@ -43,6 +60,18 @@ fn sentence(k: u32) {
         25 => write(b"a pass's frequency offset exceeds 500 kHz"),
         _ => write(b"refused"),
     }
+}
+
+fn sentence(k: u32) {
+    if k < 6 {
+        file_sentence(k);
+        return;
+    }
+    if k < 11 {
+        input_sentence(k);
+        return;
+    }
+    work_sentence(k);
 }
 
 fn numbered(k: u32) {
@@ -58,7 +87,11 @@ pub fn refusal(k: u32) {
     numbered(k);
 }
 
+// Why a file was refused; of 0, nothing.
 pub fn file_refusal(path: &[u8], k: u32) {
+    if k == 0 {
+        return;
+    }
     write(path);
     write(b": ");
     numbered(k);
@@ -74,12 +107,23 @@ fn word_name(k: usize) {
 }
 
 // A message about one of the first four words.
-pub fn word(k: usize, what: &[u8]) {
+fn word(k: usize, what: &[u8]) {
     write(b"fit_passes: ");
     word_name(k);
     write(b" ");
     write(what);
     write(b"\n");
+}
+
+pub fn no_number(k: usize) {
+    word(k, b"is not a number");
+}
+
+pub fn long_number(k: usize) {
+    word(
+        k,
+        b"has more than 19 digits, or an exponent outside -30 to 30",
+    );
 }
 
 // n in six digits.
@@ -143,14 +187,24 @@ pub fn fit(trials: usize, best: f64, rms: f64, samples: usize, passes: usize) {
     line(b"root-mean-square residual of the samples: ", rms, b" Hz\n");
 }
 
-// The biases of one pass that has samples: file k of the command.
-pub fn pass(k: usize, dt: f64, df: f64, df1: f64, df2: f64) {
+// The biases of file k of the command, if it has samples.
+fn pass(k: usize, b: Biases) {
+    if !b.sampled {
+        return;
+    }
     write(b"file ");
     io::print_decimal(STDERR_FILENO, k as u64);
-    line(b": time off by ", dt, b" s, frequency off by ");
-    line(b"", df, b" Hz, drifting by ");
-    line(b"", df1 * 1000.0, b" mHz/s and ");
-    line(b"", df2 * 1000000.0, b" uHz/s^2\n");
+    line(b": time off by ", b.dt, b" s, frequency off by ");
+    line(b"", b.df, b" Hz, drifting by ");
+    line(b"", b.df1 * 1000.0, b" mHz/s and ");
+    line(b"", b.df2 * 1000000.0, b" uHz/s^2\n");
+}
+
+// Those of each file.
+pub fn biases(counts: &[u32], dts: &[f64], dfs: &[f64], df1s: &[f64], df2s: &[f64]) {
+    for p in 0..counts.len() {
+        pass(p + 1, report::biases_of(counts, p, dts, dfs, df1s, df2s));
+    }
 }
 
 // The lines were refused after a fit.

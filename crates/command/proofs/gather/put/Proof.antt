@@ -4,7 +4,7 @@ use native.Mathlib.Nat.{le-refl}
 use borrow.Author.Needs.{needs}
 use lib.ListN.{length}
 use lib.Seq.{take-all}
-use Rattle.command.specs.Gather.{Named}
+use Rattle.command.specs.Gather.{First}
 use Rattle.command.proofs.Lists.{cut, named}
 use Rattle.command.proofs.gather.put.Statement.{statement}
 use Rattle.command.proofs.gather.put.Tie as tie
@@ -29,7 +29,7 @@ returns-2 : tie.Need-returns-2
 returns-2 c =
     let t = c .before .before .before .before in
     let a = t .before .before .before .args in
-    subst (λ l. Named l (c .before .before .copy2 .last .1 .0) (length (a .from .now))) (sym (take-all (length (a .out .now)) (a .from .now) (t .if1 .left)))
+    subst (λ l. First (length (a .from .now)) (c .before .before .copy2 .last .1 .0) l) (sym (take-all (length (a .out .now)) (a .from .now) (t .if1 .left)))
     (named (a .from .now) (a .out .now) _ _ refl (t .if1 .left) (c .before .before .copy2 .ensures))
 
 pub put-spec : {M : Type 1} → statement M
