@@ -9,11 +9,12 @@ use lib.Dec.{eqb}
 use lib.ListN.{length, getD, set, take, drop, length-drop, length-set, drop-of-length-le}
 use lib.Seq.{drop-cons, drop-length, take-all, getD-set-same, getD-set-other}
 use lib.IntN.{ℤ, pos, negsuc, _-ℤ_}
+use lib.Ieee.{Float, nan}
 use mir.Syntax.{w64}
 use mir.Val.{SFits, toZ, ofZ}
 use mir.ValLaws.{toZ-ofZ, ofZ-toZ}
 use borrow.Author.Tests.{eq-eqb, ne-eqb, eqb-true, eqb-false, lt-ltb, le-ltb}
-use Rattle.answer_lines.specs.Lines.{placeOf, beginsWith, askedOf, answerOf, fieldsFrom, afterList, fieldAt, every, sameList, Filled}
+use Rattle.answer_lines.specs.Lines.{placeOf, beginsWith, askedOf, answerOf, fieldsFrom, afterList, fieldAt, floatAt, countAt, signedAt, every, sameList, Filled, ReadsSet}
 
 here : {A : Type 0} (l : List A) (i : ℕ) (d : A) → i < length l → drop i l ≡ getD l i d ∷ drop (i + 1) l
 here l i d h = let e : suc i ≡ i + 1 = omega arith in drop-cons l i d h ∙ ap (λ (k : ℕ). getD l i d ∷ drop k l) e
@@ -186,3 +187,20 @@ module _ (u : ℕ) (h : 9223372036854775808 ≤ u) (g : u < 18446744073709551616
 
 pub positive : (u : ℕ) → u < 18446744073709551616 → ofZ w64 (toZ w64 u) ≡ u
 positive u h = ofZ-toZ w64 u (record { fits = omega (arith, h) })
+
+-- ---- a pass set
+
+pub set-read : (x : List ℕ) {m t f a b d e counts : List ℕ} {centers freqs : List Float} {times : List ℤ} {n p q s : ℕ} → m ≡ afterList x → t ≡ afterList m → f ≡ afterList t
+    → a ≡ fieldsFrom 1 x → b ≡ fieldsFrom 1 m → d ≡ fieldsFrom 1 t → e ≡ fieldsFrom 1 f
+    → Filled (countAt a) 0 counts → Filled (floatAt b) nan centers → Filled (signedAt d) (pos 0) times → Filled (floatAt e) nan freqs
+    → n ≡ fieldAt x 0 → p ≡ fieldAt m 0 → q ≡ fieldAt t 0 → s ≡ fieldAt f 0
+    → ReadsSet x counts centers times freqs (record { counts = n; centers = p; times = q; freqs = s })
+set-read x {counts = counts} {centers = centers} {freqs = freqs} {times = times} em et ef ea eb ed ee fc fm ft ff en ep eq es =
+    let t′ = et ∙ ap afterList em in
+    record {
+      sizes = rw (en, ep, eq, es, ef, et, em);
+      counted = subst (λ l. Filled (countAt l) 0 counts) ea fc;
+      centred = subst (λ l. Filled (floatAt l) nan centers) (eb ∙ ap (fieldsFrom 1) em) fm;
+      timed = subst (λ l. Filled (signedAt l) (pos 0) times) (ed ∙ ap (fieldsFrom 1) t′) ft;
+      heard = subst (λ l. Filled (floatAt l) nan freqs) (ee ∙ ap (fieldsFrom 1) (ef ∙ ap afterList t′)) ff;
+    }

@@ -5,11 +5,12 @@ use mathlib.Core.Bool.{Bool, true, false, cond}
 use mathlib.Core.List.{List, [], _∷_}
 use lib.Dec.{eqb, ltb}
 use lib.ListN.{length, getD, take, drop}
-use lib.IntN.{ℤ}
-use lib.Ieee.{Float, binary64, ofBits, toBits}
+use lib.IntN.{ℤ, pos}
+use lib.Ieee.{Float, nan, binary64, ofBits, toBits}
 use mir.Syntax.{w64}
 use mir.Val.{ofZ, toZ}
 use Rattle.replay.specs.Word.{wordAt}
+use Rattle.answer_lines.specs.declared.SetSizes.{SetSizes}
 
 -- how many bytes stand before the first b: all, where there is none
 unfoldable pub placeOf : ℕ → List ℕ → ℕ
@@ -97,3 +98,21 @@ sameFloats = sameList floatItems
 -- place i of the list has what f says, for each of its places
 pub record Filled {A : Type 0} (f : ℕ → A) (none : A) (l : List A) : Type 0 where
   pub at : (i : ℕ) → i < length l → getD l i none ≡ f i
+
+-- a pass set: lists of counts, centres, times and frequencies, one after the other, each with its length before it
+abbrev pub centersOf : List ℕ → List ℕ
+centersOf set = afterList set
+
+abbrev pub timesOf : List ℕ → List ℕ
+timesOf set = afterList (centersOf set)
+
+abbrev pub freqsOf : List ℕ → List ℕ
+freqsOf set = afterList (timesOf set)
+
+-- its lengths are said, and its lists stand from the arrays' first places on
+pub record ReadsSet (set counts : List ℕ) (centers : List Float) (times : List ℤ) (freqs : List Float) (r : SetSizes) : Type 0 where
+  pub sizes : r ≡ record { counts = fieldAt set 0; centers = fieldAt (centersOf set) 0; times = fieldAt (timesOf set) 0; freqs = fieldAt (freqsOf set) 0 }
+  pub counted : Filled (countAt (fieldsFrom 1 set)) 0 counts
+  pub centred : Filled (floatAt (fieldsFrom 1 (centersOf set))) nan centers
+  pub timed : Filled (signedAt (fieldsFrom 1 (timesOf set))) (pos 0) times
+  pub heard : Filled (floatAt (fieldsFrom 1 (freqsOf set))) nan freqs

@@ -7,7 +7,7 @@ ghost use lib.Ieee.{nan};
 ghost use lib.IntN.{pos};
 ghost use mir.Syntax.{w64};
 ghost use mir.Val.{ofZ};
-ghost use Rattle.answer_lines.specs.Lines.{placeOf, beginsWith, askedOf, answerOf, fieldsFrom, afterList, fieldAt, floatAt, countAt, signedAt, byteAt, byteItems, countItems, signedItems, floatItems, sameBytes, sameCounts, sameSigned, sameFloats, Filled};
+ghost use Rattle.answer_lines.specs.Lines.{placeOf, beginsWith, askedOf, answerOf, fieldsFrom, afterList, fieldAt, floatAt, countAt, signedAt, byteAt, byteItems, countItems, signedItems, floatItems, sameBytes, sameCounts, sameSigned, sameFloats, Filled, freqsOf, ReadsSet};
 use moment::Moment;
 
 // How many bytes stand before the first `byte`: all, where there is none.
@@ -24,7 +24,8 @@ pub fn find(text: &[u8], byte: u8) -> usize
     i
 }
 
-// Where the line that begins at a place ends: at its line feed, or the text's end.
+// Where the line that begins at a place ends: at its line feed, or the text's end. The loops over a text's lines meet the `requires`
+// by proof.
 pub fn line_end(text: &[u8], at: usize) -> usize
     requires { ⌜ at ≤ length (now text) ⌝ }
     ensures { λ r. ⌜ (r ≡ at + placeOf 10 (drop at (now (text .entry)))) × (r ≤ length (now (text .entry))) ⌝ }
@@ -174,6 +175,46 @@ pub fn times(fields: &[u8], out: &mut [i64])
     for i in 0usize..out.len() {
         out[i] = signed(fields, i);
     }
+}
+
+// How long a pass set's lists are said to be.
+pub struct SetSizes {
+    pub counts: u64,
+    pub centers: u64,
+    pub times: u64,
+    pub freqs: u64,
+}
+
+// The pass set at the first field: lists of counts, centres, times and frequencies. Past a list's end an array holds other fields.
+pub fn set(
+    fields: &[u8],
+    counts_out: &mut [u32],
+    centers_out: &mut [f64],
+    times_out: &mut [i64],
+    freqs_out: &mut [f64],
+) -> SetSizes
+    ensures { λ r. ⌜ ReadsSet (now (fields .entry)) (now («counts_out» .exit)) (now («centers_out» .exit)) (now («times_out» .exit)) (now («freqs_out» .exit)) r ⌝ }
+{
+    let at_centers = after_list(fields);
+    let at_times = after_list(at_centers);
+    let at_freqs = after_list(at_times);
+    counts(from(fields, 1), counts_out);
+    floats(from(at_centers, 1), centers_out);
+    times(from(at_times, 1), times_out);
+    floats(from(at_freqs, 1), freqs_out);
+    SetSizes {
+        counts: field(fields, 0),
+        centers: field(at_centers, 0),
+        times: field(at_times, 0),
+        freqs: field(at_freqs, 0),
+    }
+}
+
+// The fields after it.
+pub fn after_set(fields: &[u8]) -> &[u8]
+    ensures { λ r. ⌜ now r ≡ afterList (freqsOf (now (fields .entry))) ⌝ }
+{
+    after_list(after_list(after_list(after_list(fields))))
 }
 
 // The first n, or all where they are fewer.

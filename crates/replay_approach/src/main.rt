@@ -168,20 +168,14 @@ fn asked_at(line: &[u8], set: &[u8]) -> bool {
     let mut centers = [0.0; PASSES];
     let mut times = [0i64; SAMPLES];
     let mut freqs = [0.0; SAMPLES];
-    let at_centers = answer_lines::after_list(set);
-    let at_times = answer_lines::after_list(at_centers);
-    let at_freqs = answer_lines::after_list(at_times);
-    answer_lines::counts(answer_lines::from(set, 1), &mut counts);
-    answer_lines::floats(answer_lines::from(at_centers, 1), &mut centers);
-    answer_lines::times(answer_lines::from(at_times, 1), &mut times);
-    answer_lines::floats(answer_lines::from(at_freqs, 1), &mut freqs);
+    let n = answer_lines::set(set, &mut counts, &mut centers, &mut times, &mut freqs);
     asked(
         line,
-        answer_lines::first_counts(&counts, answer_lines::field(set, 0)),
-        answer_lines::first_times(&times, answer_lines::field(at_times, 0)),
-        answer_lines::first_floats(&freqs, answer_lines::field(at_freqs, 0)),
-        answer_lines::first_floats(&centers, answer_lines::field(at_centers, 0)),
-        answer_lines::after_list(at_freqs),
+        answer_lines::first_counts(&counts, n.counts),
+        answer_lines::first_times(&times, n.times),
+        answer_lines::first_floats(&freqs, n.freqs),
+        answer_lines::first_floats(&centers, n.centers),
+        answer_lines::after_set(set),
     )
 }
 
