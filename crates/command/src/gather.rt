@@ -129,6 +129,7 @@ pub fn no_files(name: &mut [u8]) -> Gathered
     }
 }
 
+// The set as it was, and that a file failed, by this refusal, or 0.
 pub fn stopped(g: Gathered, refusal: u32) -> Gathered
     ensures { λ r. ⌜ r ≡ stoppedBy refusal g ⌝ }
 {
@@ -142,7 +143,7 @@ pub fn stopped(g: Gathered, refusal: u32) -> Gathered
     }
 }
 
-// Adds a file to the set.
+// Adds a file to the set: all of it, or nothing where it is refused.
 pub fn add(
     file: &[u8],
     g: Gathered,
