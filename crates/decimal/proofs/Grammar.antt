@@ -12,6 +12,7 @@ use lib.ListN.{length, getD, take, drop, drop-of-length-le, length-drop, length-
 use lib.Seq.{getD-append-add, drop-cons, drop-drop, take-all, take-at, drop-at, getD-at, length-take-le}
 use lib.Ieee.{nan, inf, binary64, round}
 use borrow.Author.Tests.{eq-eqb, ne-eqb, eqb-true, eqb-false, le-leb, lt-leb, leb-true}
+use Rattle.text.specs.Text.{bytes}
 use Rattle.decimal.specs.Read.{isDigit, run, value, lower, spells, name, sized, exponentAt, exponent, ended, unsigned, number}
 use Rattle.decimal.specs.Grammar.{Digits, no-digit, digit, Sign, no-sign, plus, minus, Mantissa, whole, point-last, point-first, Exp, no-exp, exp, numeral, limited, Body, is-inf, is-infinity, is-nan, is-number, Written, written}
 use Rattle.decimal.specs.declared.read.Number.{Number}
@@ -153,9 +154,9 @@ module _ (s : Bool) (l : List ℕ) (w p : ℕ) (m ds : List ℕ) (f : Found l w 
 
 name-said : (s : Bool) (l : List ℕ) → Said (Body s l) (name s l)
 unfolding name
-name-said s l = go (spells l (105 ∷ 110 ∷ 102 ∷ [])) refl (spells l (105 ∷ 110 ∷ 102 ∷ 105 ∷ 110 ∷ 105 ∷ 116 ∷ 121 ∷ [])) refl (spells l (110 ∷ 97 ∷ 110 ∷ [])) refl
+name-said s l = go (spells l (bytes "inf")) refl (spells l (bytes "infinity")) refl (spells l (bytes "nan")) refl
   where
-    go : (a : Bool) → spells l (105 ∷ 110 ∷ 102 ∷ []) ≡ a → (b : Bool) → spells l (105 ∷ 110 ∷ 102 ∷ 105 ∷ 110 ∷ 105 ∷ 116 ∷ 121 ∷ []) ≡ b → (c : Bool) → spells l (110 ∷ 97 ∷ 110 ∷ []) ≡ c
+    go : (a : Bool) → spells l (bytes "inf") ≡ a → (b : Bool) → spells l (bytes "infinity") ≡ b → (c : Bool) → spells l (bytes "nan") ≡ c
         → Said (Body s l) (cond a (Value (inf s)) (cond b (Value (inf s)) (cond c (Value nan) Nothing)))
     go true p b q c r = this (is-inf l p)
     go false p true q c r = this (is-infinity l q)
@@ -454,19 +455,19 @@ other-first a l w e = simp (ne-eqb (lower a) 105 (λ (z : lower a ≡ 105). omeg
 
 body-takes : {n : Bool} {t : List ℕ} {v : Number} → Body n t v → unsigned n t ≡ v
 unfolding name
-body-takes (is-inf [] e) = absurd (let z = same-long [] (105 ∷ 110 ∷ 102 ∷ []) e in omega arith)
-body-takes {n = n} (is-inf (a ∷ l) e) = word-takes n a l (letter a 105 (first-same a l 105 (110 ∷ 102 ∷ []) e) (omega arith)) ∙ simp e
-body-takes (is-infinity [] e) = absurd (let z = same-long [] (105 ∷ 110 ∷ 102 ∷ 105 ∷ 110 ∷ 105 ∷ 116 ∷ 121 ∷ []) e in omega arith)
+body-takes (is-inf [] e) = absurd (let z = same-long [] (bytes "inf") e in omega arith)
+body-takes {n = n} (is-inf (a ∷ l) e) = word-takes n a l (letter a 105 (first-same a l 105 (bytes "nf") e) (omega arith)) ∙ simp e
+body-takes (is-infinity [] e) = absurd (let z = same-long [] (bytes "infinity") e in omega arith)
 body-takes {n = n} (is-infinity (a ∷ l) e) =
-    let z = same-long (a ∷ l) (105 ∷ 110 ∷ 102 ∷ 105 ∷ 110 ∷ 105 ∷ 116 ∷ 121 ∷ []) e in
-    word-takes n a l (letter a 105 (first-same a l 105 (110 ∷ 102 ∷ 105 ∷ 110 ∷ 105 ∷ 116 ∷ 121 ∷ []) e) (omega arith))
-    ∙ simp (spells-length (a ∷ l) (105 ∷ 110 ∷ 102 ∷ []) (λ (y : length (a ∷ l) ≡ 3). omega arith), e)
-body-takes (is-nan [] e) = absurd (let z = same-long [] (110 ∷ 97 ∷ 110 ∷ []) e in omega arith)
+    let z = same-long (a ∷ l) (bytes "infinity") e in
+    word-takes n a l (letter a 105 (first-same a l 105 (bytes "nfinity") e) (omega arith))
+    ∙ simp (spells-length (a ∷ l) (bytes "inf") (λ (y : length (a ∷ l) ≡ 3). omega arith), e)
+body-takes (is-nan [] e) = absurd (let z = same-long [] (bytes "nan") e in omega arith)
 body-takes {n = n} (is-nan (a ∷ l) e) =
-    let z = same-long (a ∷ l) (110 ∷ 97 ∷ 110 ∷ []) e in
-    let f = first-same a l 110 (97 ∷ 110 ∷ []) e in
+    let z = same-long (a ∷ l) (bytes "nan") e in
+    let f = first-same a l 110 (bytes "an") e in
     word-takes n a l (letter a 110 f (omega arith))
-    ∙ simp (other-first a l (110 ∷ 102 ∷ []) f, spells-length (a ∷ l) (105 ∷ 110 ∷ 102 ∷ 105 ∷ 110 ∷ 105 ∷ 116 ∷ 121 ∷ []) (λ (y : length (a ∷ l) ≡ 8). omega arith), e)
+    ∙ simp (other-first a l (bytes "nf") f, spells-length (a ∷ l) (bytes "infinity") (λ (y : length (a ∷ l) ≡ 8). omega arith), e)
 body-takes {n = n} (is-number (whole ws W h) X) = plain-takes n ws W X h
 body-takes {n = n} (is-number (point-last ws ps W h P) X) = pointed-takes n ws ps W P X (point-last ws ps W h P) (omega arith)
 body-takes {n = n} (is-number (point-first ws ps W P h) X) = pointed-takes n ws ps W P X (point-first ws ps W P h) (omega arith)
@@ -481,12 +482,12 @@ point-begins x (c ∷ ws) ps (digit e d) = let k = first-digit c e in omega arit
 
 -- no body begins with a sign
 body-first : {n : Bool} {t : List ℕ} {v : Number} → Body n t v → 46 ≤ getD t 0 0
-body-first (is-inf [] e) = absurd (let z = same-long [] (105 ∷ 110 ∷ 102 ∷ []) e in omega arith)
-body-first (is-inf (a ∷ l) e) = let k = letter a 105 (first-same a l 105 (110 ∷ 102 ∷ []) e) (omega arith) in omega arith
-body-first (is-infinity [] e) = absurd (let z = same-long [] (105 ∷ 110 ∷ 102 ∷ 105 ∷ 110 ∷ 105 ∷ 116 ∷ 121 ∷ []) e in omega arith)
-body-first (is-infinity (a ∷ l) e) = let k = letter a 105 (first-same a l 105 (110 ∷ 102 ∷ 105 ∷ 110 ∷ 105 ∷ 116 ∷ 121 ∷ []) e) (omega arith) in omega arith
-body-first (is-nan [] e) = absurd (let z = same-long [] (110 ∷ 97 ∷ 110 ∷ []) e in omega arith)
-body-first (is-nan (a ∷ l) e) = let k = letter a 110 (first-same a l 110 (97 ∷ 110 ∷ []) e) (omega arith) in omega arith
+body-first (is-inf [] e) = absurd (let z = same-long [] (bytes "inf") e in omega arith)
+body-first (is-inf (a ∷ l) e) = let k = letter a 105 (first-same a l 105 (bytes "nf") e) (omega arith) in omega arith
+body-first (is-infinity [] e) = absurd (let z = same-long [] (bytes "infinity") e in omega arith)
+body-first (is-infinity (a ∷ l) e) = let k = letter a 105 (first-same a l 105 (bytes "nfinity") e) (omega arith) in omega arith
+body-first (is-nan [] e) = absurd (let z = same-long [] (bytes "nan") e in omega arith)
+body-first (is-nan (a ∷ l) e) = let k = letter a 110 (first-same a l 110 (bytes "an") e) (omega arith) in omega arith
 body-first (is-number {x = x} (whole ws W h) X) = digits-begin x ws W h
 body-first (is-number {x = x} (point-last ws ps W h P) X) = point-begins x ws ps W
 body-first (is-number {x = x} (point-first ws ps W P h) X) = point-begins x ws ps W

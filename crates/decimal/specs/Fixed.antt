@@ -7,6 +7,7 @@ use lib.IntN.{pos}
 use lib.Ieee.{Float, fin, lt}
 use lib.Ieee.Positive.{num, den}
 use lib.Ieee.Nearest.{closest}
+use Rattle.text.specs.Text.{code}
 
 -- 0 ≤ v < 1000: -0 is within, a NaN is not
 unfoldable pub within : Float → Bool
@@ -18,12 +19,12 @@ decimal p v = closest (num v * 10 ^ p) (den v)
 
 -- the digit of n at 10 ^ i, as a byte
 abbrev pub digitAt : ℕ → ℕ → ℕ
-digitAt n i = n / 10 ^ i % 10 + 48
+digitAt n i = n / 10 ^ i % 10 + code "0"
 
 -- What stands i columns from the right end of n / 10 ^ p with p places: a digit after the point, the point, the digit before it, and further left n's other digits, then `pad`.
 unfoldable pub cellAt : ℕ → ℕ → ℕ → ℕ → ℕ
 cellAt pad p n i =
-    cond (ltb i p) (digitAt n i) (cond (eqb i p) 46 (cond (eqb (i - 1) p || leb (10 ^ (i - 1)) n) (digitAt n (i - 1)) pad))
+    cond (ltb i p) (digitAt n i) (cond (eqb i p) (code ".") (cond (eqb (i - 1) p || leb (10 ^ (i - 1)) n) (digitAt n (i - 1)) pad))
 
 -- its w last columns, from the left
 unfoldable pub text : ℕ → ℕ → ℕ → ℕ → List ℕ

@@ -12,6 +12,7 @@ use mathlib.Core.List.{List, [], _∷_, _++_}
 use lib.Dec.{ltb}
 use lib.ListN.{length}
 use lib.Ieee.{nan, inf, binary64, round}
+use Rattle.text.specs.Text.{bytes, code}
 use Rattle.decimal.specs.Read.{isDigit, lower, spells}
 use Rattle.decimal.specs.declared.read.Number.{Number}
 use Rattle.decimal.specs.declared.read.Number.the-variants.{Value, Refused}
@@ -24,24 +25,24 @@ pub data Digits : List ℕ → Type 0 where
 -- Sign?, and whether it is a minus
 pub data Sign : List ℕ → Bool → Type 0 where
   no-sign : Sign [] false
-  plus : Sign (43 ∷ []) false
-  minus : Sign (45 ∷ []) true
+  plus : Sign (bytes "+") false
+  minus : Sign (bytes "-") true
 
 -- Digit+ | Digit+ '.' Digit* | Digit* '.' Digit+, the digits alone, and how many of them stand behind the point
 pub data Mantissa : List ℕ → List ℕ → ℕ → Type 0 where
   whole : (ws : List ℕ) → Digits ws → 0 < length ws → Mantissa ws ws 0
-  point-last : (ws ps : List ℕ) → Digits ws → 0 < length ws → Digits ps → Mantissa (ws ++ 46 ∷ ps) (ws ++ ps) (length ps)
-  point-first : (ws ps : List ℕ) → Digits ws → Digits ps → 0 < length ps → Mantissa (ws ++ 46 ∷ ps) (ws ++ ps) (length ps)
+  point-last : (ws ps : List ℕ) → Digits ws → 0 < length ws → Digits ps → Mantissa (ws ++ code "." ∷ ps) (ws ++ ps) (length ps)
+  point-first : (ws ps : List ℕ) → Digits ws → Digits ps → 0 < length ps → Mantissa (ws ++ code "." ∷ ps) (ws ++ ps) (length ps)
 
 -- Exp?, whether it has a minus, and its digits
 pub data Exp : List ℕ → Bool → List ℕ → Type 0 where
   no-exp : Exp [] false []
-  exp : (e : ℕ) (s : List ℕ) (n : Bool) (ds : List ℕ) → lower e ≡ 101 → Sign s n → Digits ds → 0 < length ds → Exp (e ∷ (s ++ ds)) n ds
+  exp : (e : ℕ) (s : List ℕ) (n : Bool) (ds : List ℕ) → lower e ≡ code "e" → Sign s n → Digits ds → 0 < length ds → Exp (e ∷ (s ++ ds)) n ds
 
 -- the number that digits write, behind a
 unfoldable pub numeral : ℕ → List ℕ → ℕ
 numeral a [] = a
-numeral a (c ∷ l) = numeral (a * 10 + (c - 48)) l
+numeral a (c ∷ l) = numeral (a * 10 + (c - code "0")) l
 
 -- What a number comes to: refused by document 01's limits (over 19 digits, an exponent of over two digits or beyond 30), else the nearest float.
 unfoldable pub limited : Bool → List ℕ → ℕ → Bool → List ℕ → Number
@@ -54,9 +55,9 @@ limited n ds p en es =
 
 -- 'inf' | 'infinity' | 'nan' | Number, behind a sign
 pub data Body (n : Bool) : List ℕ → Number → Type 0 where
-  is-inf : (w : List ℕ) → spells w (105 ∷ 110 ∷ 102 ∷ []) ≡ true → Body n w (Value (inf n))
-  is-infinity : (w : List ℕ) → spells w (105 ∷ 110 ∷ 102 ∷ 105 ∷ 110 ∷ 105 ∷ 116 ∷ 121 ∷ []) ≡ true → Body n w (Value (inf n))
-  is-nan : (w : List ℕ) → spells w (110 ∷ 97 ∷ 110 ∷ []) ≡ true → Body n w (Value nan)
+  is-inf : (w : List ℕ) → spells w (bytes "inf") ≡ true → Body n w (Value (inf n))
+  is-infinity : (w : List ℕ) → spells w (bytes "infinity") ≡ true → Body n w (Value (inf n))
+  is-nan : (w : List ℕ) → spells w (bytes "nan") ≡ true → Body n w (Value nan)
   is-number : {m : List ℕ} {ds : List ℕ} {p : ℕ} {x : List ℕ} {en : Bool} {es : List ℕ} → Mantissa m ds p → Exp x en es → Body n (m ++ x) (limited n ds p en es)
 
 -- Float, and what it comes to

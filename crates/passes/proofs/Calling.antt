@@ -12,6 +12,7 @@ use lib.Ieee.{Float}
 use lib.ListN.{length, take, drop, length-drop}
 use lib.Seq.{take-nil, take-take, drop-drop, length-take-le, take-all}
 use borrow.Author.Tests.{ne-eqb, eqb-false, le-ltb}
+use Rattle.text.specs.Text.{bytes}
 use Rattle.decimal.specs.Read.{spells, number}
 use Rattle.decimal.specs.declared.read.Number.{Number}
 use Rattle.decimal.specs.declared.read.Number.the-variants as Num
@@ -124,10 +125,10 @@ module _ (l : List ℕ) where
   center-tells Num.Refused = refl
 
   named-tells : (key : List ℕ) (s : ℕ) (v : List ℕ) → Part l s v
-      → Tells l (named key s v) (cond (spells key (115 ∷ 97 ∷ 116 ∷ 101 ∷ 108 ∷ 108 ∷ 105 ∷ 116 ∷ 101 ∷ 95 ∷ 110 ∷ 97 ∷ 109 ∷ 101 ∷ [])) (some (trim v)) none)
+      → Tells l (named key s v) (cond (spells key (bytes "satellite_name")) (some (trim v)) none)
   unfolding named
-  named-tells key s v p = go (spells key (115 ∷ 97 ∷ 116 ∷ 101 ∷ 108 ∷ 108 ∷ 105 ∷ 116 ∷ 101 ∷ 95 ∷ 110 ∷ 97 ∷ 109 ∷ 101 ∷ []))
-      (spells key (99 ∷ 101 ∷ 110 ∷ 116 ∷ 101 ∷ 114 ∷ 95 ∷ 102 ∷ 114 ∷ 101 ∷ 113 ∷ 117 ∷ 101 ∷ 110 ∷ 99 ∷ 121 ∷ []))
+  named-tells key s v p = go (spells key (bytes "satellite_name"))
+      (spells key (bytes "center_frequency"))
     where
       go : (b d : Bool) → Tells l (cond b (Name (s + blanks v) (s + (blanks v + length (trim v)))) (cond d (centerOf (number (trim v))) Skipped)) (cond b (some (trim v)) none)
       go true d = (trim v, refl, part-trim p, omega arith)
@@ -139,7 +140,7 @@ module _ (l : List ℕ) where
     where
       go : (b : Bool) → eqb (until 58 h) (length h) ≡ b
           → Tells l (cond b Skipped (named (trim (take (until 58 h) h)) (s + (until 58 h + 1)) (drop (until 58 h + 1) h)))
-          (cond b none (cond (spells (trim (take (until 58 h) h)) (115 ∷ 97 ∷ 116 ∷ 101 ∷ 108 ∷ 108 ∷ 105 ∷ 116 ∷ 101 ∷ 95 ∷ 110 ∷ 97 ∷ 109 ∷ 101 ∷ [])) (some (trim (drop (until 58 h + 1) h))) none))
+          (cond b none (cond (spells (trim (take (until 58 h) h)) (bytes "satellite_name")) (some (trim (drop (until 58 h + 1) h))) none))
       go true e = refl
       go false e = named-tells _ _ _ (part-drop (until 58 h + 1) (omega (arith, until-most 58 h, eqb-false (until 58 h) (length h) e)) p)
 

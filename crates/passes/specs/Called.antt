@@ -5,6 +5,7 @@ use mathlib.Core.List.{List, [], _∷_}
 use mathlib.Core.Option.{Option, none, some}
 use lib.Dec.{ltb, eqb}
 use lib.ListN.{length, getD, take, drop}
+use Rattle.text.specs.Text.{bytes, code}
 use Rattle.decimal.specs.Read.{spells}
 use Rattle.passes.specs.Text.{Placed, trim, until, ascii}
 use Rattle.passes.specs.File.{nameOf}
@@ -13,13 +14,13 @@ use Rattle.passes.specs.declared.file.PassFile.{PassFile}
 -- key, colon, value: the value, trimmed, where the key, trimmed, is satellite_name in any case of its letters
 unfoldable pub valueOf : List ℕ → Option (List ℕ)
 valueOf h =
-    let k = until 58 h in
+    let k = until (code ":") h in
     cond (eqb k (length h)) none
-    (cond (spells (trim (take k h)) (115 ∷ 97 ∷ 116 ∷ 101 ∷ 108 ∷ 108 ∷ 105 ∷ 116 ∷ 101 ∷ 95 ∷ 110 ∷ 97 ∷ 109 ∷ 101 ∷ [])) (some (trim (drop (k + 1) h))) none)
+    (cond (spells (trim (take k h)) (bytes "satellite_name")) (some (trim (drop (k + 1) h))) none)
 
 -- a header begins with #
 unfoldable pub headed : List ℕ → Option (List ℕ)
-headed t = cond (eqb (getD t 0 0) 35) (valueOf (drop 1 t)) none
+headed t = cond (eqb (getD t 0 0) (code "#")) (valueOf (drop 1 t)) none
 
 -- the name that a line gives; one that is refused gives none
 unfoldable pub calledIn : List ℕ → Option (List ℕ)

@@ -1,10 +1,11 @@
 -- What a line of a pass file says.
 use Prim.Native.Nat.{ℕ, _+_, _*_}
 use mathlib.Core.Bool.{Bool, not, _&&_, cond}
-use mathlib.Core.List.{List, [], _∷_}
+use mathlib.Core.List.{List}
 use lib.Dec.{leb, ltb, eqb}
 use lib.IntN.{ℤ, subℕ}
 use lib.ListN.{length, getD, take, drop}
+use Rattle.text.specs.Text.{bytes, code}
 use Rattle.decimal.specs.Read.{spells, number}
 use Rattle.decimal.specs.declared.read.Number.{Number}
 use Rattle.decimal.specs.declared.read.Number.the-variants as Num
@@ -38,10 +39,10 @@ pairOf (Time.At s n) v = sampleOf s n v
 
 -- the first field is a time, the second, up to the next comma, a number
 unfoldable pub fields : List ℕ → List ℕ → Line
-fields a r = pairOf (dateTimeOf a) (number (take (until 44 r) r))
+fields a r = pairOf (dateTimeOf a) (number (take (until (code ",") r) r))
 
 unfoldable pub sample : List ℕ → Line
-sample t = let k = until 44 t in cond (eqb k (length t)) Skipped (fields (take k t) (drop (k + 1) t))
+sample t = let k = until (code ",") t in cond (eqb k (length t)) Skipped (fields (take k t) (drop (k + 1) t))
 
 abbrev pub centerOf : Number → Line
 centerOf Num.Nothing = Skipped
@@ -51,16 +52,16 @@ centerOf Num.Refused = Refusal refusal.number-size
 -- satellite_name, center_frequency: in any case of their letters. The value v, not yet trimmed, stands at s in the line.
 unfoldable pub named : List ℕ → ℕ → List ℕ → Line
 named key s v =
-    cond (spells key (115 ∷ 97 ∷ 116 ∷ 101 ∷ 108 ∷ 108 ∷ 105 ∷ 116 ∷ 101 ∷ 95 ∷ 110 ∷ 97 ∷ 109 ∷ 101 ∷ [])) (Name (s + blanks v) (s + (blanks v + length (trim v))))
-    (cond (spells key (99 ∷ 101 ∷ 110 ∷ 116 ∷ 101 ∷ 114 ∷ 95 ∷ 102 ∷ 114 ∷ 101 ∷ 113 ∷ 117 ∷ 101 ∷ 110 ∷ 99 ∷ 121 ∷ [])) (centerOf (number (trim v))) Skipped)
+    cond (spells key (bytes "satellite_name")) (Name (s + blanks v) (s + (blanks v + length (trim v))))
+    (cond (spells key (bytes "center_frequency")) (centerOf (number (trim v))) Skipped)
 
 -- what stands at s behind a header's #: key, colon, value
 unfoldable pub header : ℕ → List ℕ → Line
-header s h = let k = until 58 h in cond (eqb k (length h)) Skipped (named (trim (take k h)) (s + (k + 1)) (drop (k + 1) h))
+header s h = let k = until (code ":") h in cond (eqb k (length h)) Skipped (named (trim (take k h)) (s + (k + 1)) (drop (k + 1) h))
 
 -- a line without the blanks at its ends, of which s stood before it
 unfoldable pub text : ℕ → List ℕ → Line
-text s t = cond (eqb (length t) 0) Skipped (cond (eqb (getD t 0 0) 35) (header (s + 1) (drop 1 t)) (sample t))
+text s t = cond (eqb (length t) 0) Skipped (cond (eqb (getD t 0 0) (code "#")) (header (s + 1) (drop 1 t)) (sample t))
 
 unfoldable pub lineOf : List ℕ → Line
 lineOf l = cond (not (ascii l)) (Refusal refusal.non-ascii) (cond (ltb 256 (length l)) (Refusal refusal.long-line) (text (blanks l) (trim l)))

@@ -5,6 +5,7 @@ use mathlib.Core.Bool.{Bool, true, false, _&&_, cond}
 use mathlib.Core.List.{List, [], _∷_, _++_}
 use lib.Dec.{leb, ltb, eqb}
 use lib.ListN.{length, take, drop}
+use Rattle.text.specs.Text.{code}
 
 -- a line, and where it begins in its file
 pub record Placed : Type 0 where
@@ -18,18 +19,18 @@ push at cs (l ∷ ls) = record { at = at; bytes = cs ++ l .bytes } ∷ ls
 
 unfoldable pub startsLf : List ℕ → Bool
 startsLf [] = false
-startsLf (c ∷ l) = eqb c 10
+startsLf (c ∷ l) = eqb c (code "\n")
 
 -- The lines of what stands in a file from `at` on: LF ends one, and a CR before it belongs to the line's end. The last needs no end.
 unfoldable pub lines : ℕ → List ℕ → List Placed
 lines at [] = []
 lines at (c ∷ l) =
-    cond (eqb c 10) (record { at = at; bytes = [] } ∷ lines (at + 1) l)
-    (push at (cond (eqb c 13 && startsLf l) [] (c ∷ [])) (lines (at + 1) l))
+    cond (eqb c (code "\n")) (record { at = at; bytes = [] } ∷ lines (at + 1) l)
+    (push at (cond (eqb c (code "\r") && startsLf l) [] (c ∷ [])) (lines (at + 1) l))
 
 -- bytes 9 to 13 and 32
 unfoldable pub blank : ℕ → Bool
-blank c = cond (eqb c 32) true (cond (ltb c 9) false (leb c 13))
+blank c = cond (eqb c (code " ")) true (cond (ltb c 9) false (leb c 13))
 
 -- how many blanks l starts with
 unfoldable pub blanks : List ℕ → ℕ

@@ -6,7 +6,7 @@ ghost use lib.Seq.{sets};
 ghost use Rattle.passes.specs.File as File;
 use super::line;
 use super::line::Line;
-use super::text;
+use super::pieces;
 
 // What a file says, with the name as a part of it: from name_start up to name_end.
 pub struct PassFile {
@@ -125,7 +125,7 @@ fn scan(file: &[u8], times: &mut [i64], freqs: &mut [f64]) -> PassFile
     let mut s = opening();
     let mut at = 0;
     while at < file.len() {
-        let c = text::line(&file[at..]);
+        let c = pieces::line(&file[at..]);
         let n = c.size;
         let next = c.next;
         s = step(file, at, n, s, times, freqs);

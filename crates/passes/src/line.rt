@@ -6,7 +6,7 @@ ghost use lib.ListN.{length};
 ghost use Rattle.decimal.specs.Read as Read;
 ghost use Rattle.passes.specs.Text as Text;
 ghost use Rattle.passes.specs.Line as Spec;
-use super::text;
+use super::pieces;
 use decimal::read;
 use decimal::read::Number;
 use rfc3339::Timestamp;
@@ -73,14 +73,14 @@ fn pair_of(t: Timestamp, v: Number) -> Line
 fn fields(a: &[u8], r: &[u8]) -> Line
     ensures { λ x. ⌜ x ≡ Spec.fields (now (a .entry)) (now (r .entry)) ⌝ }
 {
-    let k = text::until(b',', r);
+    let k = pieces::until(b',', r);
     pair_of(rfc3339::parse_from_rfc3339(a), read::parse(&r[..k]))
 }
 
 fn sample(t: &[u8]) -> Line
     ensures { λ r. ⌜ r ≡ Spec.sample (now (t .entry)) ⌝ }
 {
-    let k = text::until(b',', t);
+    let k = pieces::until(b',', t);
     if k == t.len() {
         return Line::Skipped;
     }
@@ -102,7 +102,7 @@ fn named(key: &[u8], s: usize, value: &[u8]) -> Line
     requires { ⌜ s + length (now value) < 9223372036854775808 ⌝ }
     ensures { λ r. ⌜ r ≡ Spec.named (now (key .entry)) s (now (value .entry)) ⌝ }
 {
-    let v = text::trim(value);
+    let v = pieces::trim(value);
     let a = v.start;
     let b = v.end;
     if read::spells(key, b"satellite_name") {
@@ -118,7 +118,7 @@ fn entry(key: &[u8], s: usize, value: &[u8]) -> Line
     requires { ⌜ s + length (now value) < 9223372036854775808 ⌝ }
     ensures { λ r. ⌜ r ≡ Spec.named (Text.trim (now (key .entry))) s (now (value .entry)) ⌝ }
 {
-    let k = text::trim(key);
+    let k = pieces::trim(key);
     let a = k.start;
     let e = k.end;
     named(&key[a..e], s, value)
@@ -129,7 +129,7 @@ fn header(h: &[u8], s: usize) -> Line
     requires { ⌜ s + length (now h) < 9223372036854775808 ⌝ }
     ensures { λ r. ⌜ r ≡ Spec.header s (now (h .entry)) ⌝ }
 {
-    let k = text::until(b':', h);
+    let k = pieces::until(b':', h);
     if k == h.len() {
         return Line::Skipped;
     }
@@ -154,13 +154,13 @@ fn trimmed(t: &[u8], s: usize) -> Line
 pub fn read_line(l: &[u8]) -> Line
     ensures { λ r. ⌜ r ≡ Spec.lineOf (now (l .entry)) ⌝ }
 {
-    if !text::ascii(l) {
+    if !pieces::ascii(l) {
         return Line::Refusal(refusal::NON_ASCII);
     }
     if 256 < l.len() {
         return Line::Refusal(refusal::LONG_LINE);
     }
-    let p = text::trim(l);
+    let p = pieces::trim(l);
     let s = p.start;
     let e = p.end;
     trimmed(&l[s..e], s)

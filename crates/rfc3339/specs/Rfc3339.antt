@@ -5,6 +5,7 @@ use mathlib.Core.Bool.{Bool, true, false, _&&_, cond}
 use mathlib.Core.List.{List, [], _∷_}
 use lib.Dec.{leb, ltb, eqb}
 use lib.ListN.{length, getD, drop}
+use Rattle.text.specs.Text.{bytes, code}
 use Rattle.decimal.specs.Read.{isDigit, run, value, lower}
 use Rattle.moment.specs.Calendar.{leap, monthLength, monthsLength, daysToYear}
 use Rattle.rfc3339.specs.declared.Timestamp.{Timestamp}
@@ -12,7 +13,7 @@ use Rattle.rfc3339.specs.declared.Timestamp.the-variants.{Nothing, At}
 
 -- A byte where a pattern has p: any digit for a 0, else p itself, a letter in either case. p is in lower case.
 unfoldable pub fits : ℕ → ℕ → Bool
-fits p c = cond (eqb p 48) (isDigit c) (eqb (lower c) p)
+fits p c = cond (eqb p (code "0")) (isDigit c) (eqb (lower c) p)
 
 -- l starts as the pattern says
 unfoldable pub matches : List ℕ → List ℕ → Bool
@@ -20,17 +21,17 @@ matches [] l = true
 matches (p ∷ ps) [] = false
 matches (p ∷ ps) (c ∷ l) = fits p c && matches ps l
 
--- 0000-00-00t00:00:00
+-- a date and a time of day
 abbrev pub layout : List ℕ
-layout = 48 ∷ 48 ∷ 48 ∷ 48 ∷ 45 ∷ 48 ∷ 48 ∷ 45 ∷ 48 ∷ 48 ∷ 116 ∷ 48 ∷ 48 ∷ 58 ∷ 48 ∷ 48 ∷ 58 ∷ 48 ∷ 48 ∷ []
+layout = bytes "0000-00-00t00:00:00"
 
--- 00:00
+-- hours and minutes of an offset
 abbrev pub hourMinute : List ℕ
-hourMinute = 48 ∷ 48 ∷ 58 ∷ 48 ∷ 48 ∷ []
+hourMinute = bytes "00:00"
 
 -- the two digits at a place
 abbrev pub twoDigits : List ℕ → ℕ → ℕ
-twoDigits l i = (getD l i 0 - 48) * 10 + (getD l (i + 1) 0 - 48)
+twoDigits l i = (getD l i 0 - code "0") * 10 + (getD l (i + 1) 0 - code "0")
 
 -- a day that the calendar has
 unfoldable pub validDate : ℕ → ℕ → ℕ → Bool
@@ -50,21 +51,21 @@ numoffset l z s n =
     let o = twoDigits l (z + 1) * 3600 + twoDigits l (z + 4) * 60 in
     cond (matches hourMinute (drop (z + 1) l))
     (cond (validTime (twoDigits l (z + 1)) (twoDigits l (z + 4)) 0)
-    (cond (eqb (getD l z 0) 43) (At (s - o) n) (cond (eqb (getD l z 0) 45) (At (s + o) n) Nothing))
+    (cond (eqb (getD l z 0) (code "+")) (At (s - o) n) (cond (eqb (getD l z 0) (code "-")) (At (s + o) n) Nothing))
     Nothing)
     Nothing
 
 -- At z stands Z or an offset, and nothing after.
 unfoldable pub timeOffset : List ℕ → ℕ → ℕ → ℕ → Timestamp
 timeOffset l z s n =
-    cond (eqb (length l) (z + 1)) (cond (eqb (lower (getD l z 0)) 122) (At s n) Nothing)
+    cond (eqb (length l) (z + 1)) (cond (eqb (lower (getD l z 0)) (code "z")) (At s n) Nothing)
     (cond (eqb (length l) (z + 6)) (numoffset l z s n) Nothing)
 
 -- Behind the seconds a point and at least one digit may stand.
 unfoldable pub timeSecfrac : List ℕ → ℕ → Timestamp
 timeSecfrac l s =
     let n = run (drop 20 l) in
-    cond (eqb (getD l 19 0) 46) (cond (eqb n 0) Nothing (timeOffset l (20 + n) s (nanos l n))) (timeOffset l 19 s 0)
+    cond (eqb (getD l 19 0) (code ".")) (cond (eqb n 0) Nothing (timeOffset l (20 + n) s (nanos l n))) (timeOffset l 19 s 0)
 
 -- Seconds of local time, from a day before the year 0000: with that day no offset leads below 0.
 abbrev pub seconds : ℕ → ℕ → ℕ → ℕ → ℕ → ℕ → ℕ
@@ -81,7 +82,7 @@ dateTimeOf l =
     Nothing
 
 pub record Digit (c r : ℕ) : Type 0 where
-  pub is : r ≡ c - 48
+  pub is : r ≡ c - code "0"
   pub most : r < 208
 
 pub record Two (l : List ℕ) (i r : ℕ) : Type 0 where

@@ -1,8 +1,8 @@
--- `passes::text::trim` meets its contract. Assumes nothing.
+-- `passes::pieces::trim` meets its contract. Assumes nothing.
 use Rattle.passes.proofs.Texts.{trimmed}
 use borrow.Author.Needs.{needs}
-use Rattle.passes.proofs.text.trim.Statement.{statement}
-use Rattle.passes.proofs.text.trim.Tie as tie
+use Rattle.passes.proofs.pieces.trim.Statement.{statement}
+use Rattle.passes.proofs.pieces.trim.Tie as tie
 
 trim-start-requires : tie.Need-trim-start-requires
 trim-start-requires c κs = search needs

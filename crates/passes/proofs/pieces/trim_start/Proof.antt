@@ -1,4 +1,4 @@
--- `passes::text::trim_start` meets its contract: i blanks and those of what is left are all. Assumes nothing.
+-- `passes::pieces::trim_start` meets its contract: i blanks and those of what is left are all. Assumes nothing.
 use mathlib.Core.Path.{_≡_, sym, _∙_}
 use Prim.Native.Nat.{_+_, _-_, _≤_}
 use native.Mathlib.Omega.{arith}
@@ -7,8 +7,8 @@ use borrow.Author.Needs.{needs}
 use borrow.Author.Tests.{not-true, not-false}
 use Rattle.passes.specs.Text as Text
 use Rattle.passes.proofs.Texts.{blanks-here, blanks-next, blanks-end}
-use Rattle.passes.proofs.text.trim_start.Statement.{statement}
-use Rattle.passes.proofs.text.trim_start.Tie as tie
+use Rattle.passes.proofs.pieces.trim_start.Statement.{statement}
+use Rattle.passes.proofs.pieces.trim_start.Tie as tie
 
 abbrev Inv-loop : tie.InvT-loop
 Inv-loop l i₀ i = (i ≤ length l) × (i + Text.blanks (drop i l) ≡ Text.blanks l)

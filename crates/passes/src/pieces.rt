@@ -1,4 +1,4 @@
-// Bytes as text. `line` is internal: its callers meet what it requires by proof.
+// Bytes cut into lines, and lines into what stands between blanks and before a byte. `line` is internal: its callers meet what it requires by proof.
 ghost use mathlib.Core.Path.{_≡_};
 ghost use Prim.Native.Nat.{_+_, _≤_, _<_};
 ghost use lib.ListN.{length};
