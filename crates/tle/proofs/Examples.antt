@@ -1,10 +1,13 @@
 -- Document 01's example, by computation. Assumes nothing.
 use mathlib.Core.Path.{_≡_, refl, sym, ap, _∙_}
-use mathlib.Core.List.{List, [], _∷_}
+use mathlib.Core.Bool.{true, false}
+use mathlib.Core.List.{List, [], _∷_, _++_}
 use Prim.Native.Nat.{ℕ, zero, suc, _-_, _/_, _%_}
+use Prim.Native.String.{String}
 use lib.Dec.{lit<, lit≤}
 use lib.IntN.{pos, negsuc}
 use lib.Ieee.{Float, nan, add, mul, div, rem, lt, round, ofInt, ofBits}
+use Rattle.text.specs.Text.{bytes, code}
 use Rattle.float.specs.Ops.{_⊕_, bits, remEuclidOf, degreesOf, degreesPerRadian}
 use Rattle.float.specs.Trig.{full, pi}
 use Rattle.roots.specs.Root.{sqrtOf}
@@ -20,6 +23,7 @@ use Rattle.solution.specs.Range.{leastRadius, mostRadius}
 use Rattle.tle.specs.Answer.{angleFits, radiusFits, inclinationFits, orbitFits, visible, nameFits, refusalOf}
 use Rattle.tle.specs.Example.{epoch, orbit, first-line, second-line}
 use Rattle.tle.specs.Lines.{body1, body2, sumOf, checksumOf, closed, line1, line2}
+use Rattle.tle.specs.Printed.{matchesBehind, matches, columns1, columns2}
 use Rattle.tle.specs.declared.elements.Epoch.{Epoch}
 
 -- ---- dates and times
@@ -52,57 +56,57 @@ example-2 = refl
 
 -- ---- the first and the last moments of years: 001.00000000 in 1957, 366.00000000 in 2026 and 367.00000000 in 2056
 abbrev day-text : Float → List ℕ
-day-text v = text 48 8 (decimal 8 v) 12
+day-text v = text (code "0") 8 (decimal 8 v) 12
 
 january-1 : dateOf 306 ≡ record { year = 1957; month = 1; day = 1 }
 january-1 = sym (from-january 306 0 (lit< tt) refl (lit≤ tt))
 
-first-moment : day-text (epochOf (record { seconds = negsuc 410227199; nanos = 0 }) .day) ≡ 48 ∷ 48 ∷ 49 ∷ 46 ∷ 48 ∷ 48 ∷ 48 ∷ 48 ∷ 48 ∷ 48 ∷ 48 ∷ 48 ∷ []
+first-moment : day-text (epochOf (record { seconds = negsuc 410227199; nanos = 0 }) .day) ≡ bytes "001.00000000"
 unfolding text cellAt secondsOf dayFraction ordinalOf leap monthsLength monthLength secondsPerHour secondsPerMinute nanosPerSecond secondsPerDay add mul div round ofInt ofBits
 first-moment = ap (λ (e : Epoch). day-text (e .day)) (epoch-on (record { seconds = negsuc 410227199; nanos = 0 }) (record { year = 1957; month = 1; day = 1 }) january-1)
 
 december-31 : dateOf 25872 ≡ record { year = 2026; month = 12; day = 31 }
 december-31 = sym (from-march 25872 2 (lit< tt) refl (lit< tt))
 
-last-of-2026 : day-text (epochOf (record { seconds = pos 1798761599; nanos = 999999999 }) .day) ≡ 51 ∷ 54 ∷ 54 ∷ 46 ∷ 48 ∷ 48 ∷ 48 ∷ 48 ∷ 48 ∷ 48 ∷ 48 ∷ 48 ∷ []
+last-of-2026 : day-text (epochOf (record { seconds = pos 1798761599; nanos = 999999999 }) .day) ≡ bytes "366.00000000"
 unfolding text cellAt secondsOf dayFraction ordinalOf leap monthsLength monthLength secondsPerHour secondsPerMinute nanosPerSecond secondsPerDay add mul div round ofInt ofBits
 last-of-2026 = ap (λ (e : Epoch). day-text (e .day)) (epoch-on (record { seconds = pos 1798761599; nanos = 999999999 }) (record { year = 2026; month = 12; day = 31 }) december-31)
 
 december-31-2056 : dateOf 36830 ≡ record { year = 2056; month = 12; day = 31 }
 december-31-2056 = sym (from-march 36830 0 (lit< tt) refl (lit< tt))
 
-last-moment : day-text (epochOf (record { seconds = pos 2745532799; nanos = 999999999 }) .day) ≡ 51 ∷ 54 ∷ 55 ∷ 46 ∷ 48 ∷ 48 ∷ 48 ∷ 48 ∷ 48 ∷ 48 ∷ 48 ∷ 48 ∷ []
+last-moment : day-text (epochOf (record { seconds = pos 2745532799; nanos = 999999999 }) .day) ≡ bytes "367.00000000"
 unfolding text cellAt secondsOf dayFraction ordinalOf leap monthsLength monthLength secondsPerHour secondsPerMinute nanosPerSecond secondsPerDay add mul div round ofInt ofBits
 last-moment = ap (λ (e : Epoch). day-text (e .day)) (epoch-on (record { seconds = pos 2745532799; nanos = 999999999 }) (record { year = 2056; month = 12; day = 31 }) december-31-2056)
 
 -- ---- angles: −0.0 rad prints 0.0000, −1e-20 rad 360.0000, π rad 180.0000; of 0.03125 and 0.09375 degrees the even one
 abbrev angle-text : Float → List ℕ
-angle-text v = text 32 4 (decimal 4 v) 8
+angle-text v = text (code " ") 4 (decimal 4 v) 8
 
-minus-zero : angle-text (printedDegrees (bits 0x8000000000000000)) ≡ 32 ∷ 32 ∷ 48 ∷ 46 ∷ 48 ∷ 48 ∷ 48 ∷ 48 ∷ []
+minus-zero : angle-text (printedDegrees (bits 0x8000000000000000)) ≡ bytes "  0.0000"
 unfolding text cellAt printedDegrees degreesOf degreesPerRadian fullCircle remEuclidOf add mul rem lt round ofBits
 minus-zero = refl
 
-just-below : angle-text (printedDegrees (bits 0xbbc79ca10c924223)) ≡ 51 ∷ 54 ∷ 48 ∷ 46 ∷ 48 ∷ 48 ∷ 48 ∷ 48 ∷ []
+just-below : angle-text (printedDegrees (bits 0xbbc79ca10c924223)) ≡ bytes "360.0000"
 unfolding text cellAt printedDegrees degreesOf degreesPerRadian fullCircle remEuclidOf add mul rem lt round ofBits
 just-below = refl
 
-half-turn : angle-text (printedDegrees (bits 0x400921fb54442d18)) ≡ 49 ∷ 56 ∷ 48 ∷ 46 ∷ 48 ∷ 48 ∷ 48 ∷ 48 ∷ []
+half-turn : angle-text (printedDegrees (bits 0x400921fb54442d18)) ≡ bytes "180.0000"
 unfolding text cellAt printedDegrees degreesOf degreesPerRadian fullCircle remEuclidOf add mul rem lt round ofBits
 half-turn = refl
 
-tie-down : angle-text (bits 0x3fa0000000000000) ≡ 32 ∷ 32 ∷ 48 ∷ 46 ∷ 48 ∷ 51 ∷ 49 ∷ 50 ∷ []
+tie-down : angle-text (bits 0x3fa0000000000000) ≡ bytes "  0.0312"
 unfolding text cellAt round ofBits
 tie-down = refl
 
-tie-up : angle-text (bits 0x3fb8000000000000) ≡ 32 ∷ 32 ∷ 48 ∷ 46 ∷ 48 ∷ 57 ∷ 51 ∷ 56 ∷ []
+tie-up : angle-text (bits 0x3fb8000000000000) ≡ bytes "  0.0938"
 unfolding text cellAt round ofBits
 tie-up = refl
 
 -- ---- refusals: names of 0, 24 and 25 bytes, a byte 127, an output one byte short, the end of 2056 passed (before a bad name), a NaN, an infinite angle
 abbrev letters : ℕ → List ℕ
 letters zero = []
-letters (suc n) = 65 ∷ letters n
+letters (suc n) = code "A" ∷ letters n
 
 refusals :
     refusalOf [] orbit 141 ∷ refusalOf (letters 24) orbit 165 ∷ refusalOf (letters 25) orbit 200 ∷ refusalOf (127 ∷ []) orbit 200 ∷ refusalOf (letters 24) orbit 164
@@ -112,3 +116,14 @@ refusals :
     ≡ 0 ∷ 0 ∷ 11 ∷ 11 ∷ 21 ∷ 4 ∷ 11 ∷ 11 ∷ []
 unfolding refusalOf orbitFits radiusFits inclinationFits angleFits leastRadius mostRadius pi nameFits visible inRange secondsOf degreesOf degreesPerRadian mul lt round ofBits
 refusals = refl
+
+-- ---- columns: those of the example and one with leading zeros are right; a blank behind a digit, in the last whole place, or behind the point is not
+abbrev inclined : String → List ℕ
+inclined t = bytes "2 99999 " ++ bytes t ++ bytes "   0.0000 0000000   0.0000   0.0000 14.82366876000007"
+
+right-columns :
+    matches columns1 first-line ∷ matches columns2 second-line ∷ matches columns2 (inclined "  5.0000") ∷ matches columns2 (inclined " 05.0000") ∷ matches columns2 (inclined "1 5.0000")
+    ∷ matches columns2 (inclined "05 .0000") ∷ matches columns2 (inclined "   .0000") ∷ matches columns2 (inclined "  5. 000") ∷ []
+    ≡ true ∷ true ∷ true ∷ true ∷ false ∷ false ∷ false ∷ false ∷ []
+unfolding columns1 columns2 matchesBehind
+right-columns = refl

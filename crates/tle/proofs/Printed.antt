@@ -11,6 +11,7 @@ use lib.ListN.{length, take, drop}
 use lib.Seq.{take-at, drop-append-add}
 use lib.Ieee.{Float}
 use Rattle.decimal.specs.Fixed.{decimal, digitAt, text}
+use Rattle.decimal.specs.Read.{isDigit}
 use Rattle.decimal.proofs.Theorems.{half-unit, decimal-le}
 use Rattle.moment.specs.Range.{taken, givenOf}
 use Rattle.moment.specs.declared.Moment.{Moment}
@@ -22,7 +23,7 @@ use Rattle.refusal.specs.Order as order
 use Rattle.refusal.specs.Order.{_if_}
 use Rattle.refusal.specs.Numbers.{moment-range, unprintable, short-memory}
 use Rattle.tle.specs.Answer.{orbitFits, nameFits, refusalOf, Formats}
-use Rattle.tle.specs.Printed.{Class, only, digit, padded, isDigit, admits, matches, exactly, columns1, columns2, value, numberIn, HalfUnit, Checked, Printed}
+use Rattle.tle.specs.Printed.{Class, only, digit, leading, later, isBlank, admits, matchesBehind, matches, exactly, columns1, columns2, value, numberIn, HalfUnit, Checked, Printed}
 use Rattle.solution.specs.declared.SolvedOrbit.{SolvedOrbit}
 use Rattle.tle.specs.declared.Catalog.{Catalog}
 use Rattle.tle.specs.declared.elements.Epoch.{Epoch}
@@ -30,7 +31,7 @@ use Rattle.tle.proofs.Columns.{checksum-lt}
 use Rattle.tle.proofs.Ranges.{UpTo}
 use Rattle.tle.proofs.Accepted.{epoch-up, sound, angle-up, motion-up}
 use Rattle.tle.proofs.Answers.{line1-length, line2-length}
-use Rattle.tle.proofs.Values.{value-text, digit-value, is-digit, fieldClasses, text-matches, matches-append, matches-cons, exact}
+use Rattle.tle.proofs.Values.{value-text, digit-value, is-digit, fieldClasses, Digital, field-matches, Right, right-cons, right-append, exact}
 
 -- ---- numbers
 carries : (p pad w m : ℕ) (v : Float) (N : ℕ) → UpTo m v → (pad ≡ 32) ⊎ (pad ≡ 48) → p ≤ w → m * 10 ^ p < 10 ^ w → N ≡ value 0 (text pad p (decimal p v) (suc w)) → HalfUnit p v N
@@ -52,59 +53,75 @@ two-digits y =
     ∙ none ((0 * 10 + y / 10 ^ 1 % 10) * 10 + y / 10 ^ 0 % 10) ∙ omega arith
 
 -- ---- columns
-blank-or : (c : ℕ) → T (isDigit c) → T (admits padded c)
-blank-or c t = go (isDigit c) (eqb c 32) t
-  where
-    go : (x y : Bool) → T x → T (x || y)
-    go true y t = tt
-    go false y t = absurd t
+first-digit : (x y : Bool) → T x → T (x || y)
+first-digit true y t = tt
+first-digit false y t = absurd t
 
-angle-columns : (n : ℕ) → T (matches (fieldClasses padded 4 8) (text 32 4 n 8))
-angle-columns n = text-matches padded 32 4 n tt blank-or 8
+digital : Digital digit
+unfolding Digital
+digital b c t = t
 
-motion-columns : (n : ℕ) → T (matches (fieldClasses padded 8 11) (text 32 8 n 11))
-motion-columns n = text-matches padded 32 8 n tt blank-or 11
+leading-digital : Digital leading
+unfolding Digital
+leading-digital b c t = first-digit (isDigit c) (isBlank c) t
 
-ends : T (matches [] [])
-unfolding matches
-ends = tt
+later-digital : Digital later
+unfolding Digital
+later-digital b c t = first-digit (isDigit c) (isBlank b && isBlank c) t
 
--- the checksum's column
-sum-column : (cs : ℕ) → cs < 10 → T (matches (digit ∷ []) ((cs + 48) ∷ []))
-sum-column cs h = matches-cons digit [] (cs + 48) [] (is-digit cs h) ends
+behind-blank : (b : ℕ) → b ≡ 32 → T (admits later b 32)
+behind-blank b e = rw e tt
+
+angle-columns : (n : ℕ) → Right (fieldClasses leading later 4 7) (text 32 4 n 8)
+unfolding Right
+angle-columns n = field-matches 32 4 n later later-digital behind-blank leading leading-digital (λ b. tt) 7
+
+motion-columns : (n : ℕ) → Right (fieldClasses leading later 8 10) (text 32 8 n 11)
+unfolding Right
+motion-columns n = field-matches 32 8 n later later-digital behind-blank leading leading-digital (λ b. tt) 10
+
+day-columns : (n : ℕ) → Right (fieldClasses digit digit 8 11) (text 48 8 n 12)
+unfolding Right
+day-columns n = field-matches 48 8 n digit digital (λ b e. tt) digit digital (λ b. tt) 11
+
+ends : Right [] []
+unfolding Right matchesBehind
+ends b = tt
+
+digit-column : (ks : List Class) (d : ℕ) (l : List ℕ) → d < 10 → Right ks l → Right (digit ∷ ks) ((d + 48) ∷ l)
+digit-column ks d l h q = right-cons digit ks (d + 48) l (λ b. is-digit d h) q
 
 -- a blank
-blank : (ks : List Class) (l : List ℕ) → T (matches ks l) → T (matches (only 32 ∷ ks) (32 ∷ l))
-blank ks l t = matches-cons (only 32) ks 32 l tt t
+blank-column : (ks : List Class) (l : List ℕ) → Right ks l → Right (only 32 ∷ ks) (32 ∷ l)
+blank-column ks l q = right-cons (only 32) ks 32 l (λ b. tt) q
 
+-- a line is put together from the right
 line1-columns : (year day cs : ℕ) → cs < 10
-    → T (matches columns1 (start1 ++ digitAt year 1 ∷ digitAt year 0 ∷ text 48 8 day 12 ++ rest1 ++ ((cs + 48) ∷ [])))
-unfolding columns1
+    → T (matches columns1 (start1 ++ (digitAt year 1 ∷ (digitAt year 0 ∷ (text 48 8 day 12 ++ (rest1 ++ ((cs + 48) ∷ [])))))))
+unfolding columns1 Right
 line1-columns year day cs h =
-    matches-append (exactly start1 ++ digit ∷ digit ∷ fieldClasses digit 8 12 ++ exactly rest1) (digit ∷ []) (start1 ++ digitAt year 1 ∷ digitAt year 0 ∷ text 48 8 day 12 ++ rest1) ((cs + 48) ∷ [])
-    (matches-append (exactly start1 ++ digit ∷ digit ∷ fieldClasses digit 8 12) (exactly rest1) (start1 ++ digitAt year 1 ∷ digitAt year 0 ∷ text 48 8 day 12) rest1
-    (matches-append (exactly start1) (digit ∷ digit ∷ fieldClasses digit 8 12) start1 (digitAt year 1 ∷ digitAt year 0 ∷ text 48 8 day 12) (exact start1)
-    (matches-cons digit (digit ∷ fieldClasses digit 8 12) (digitAt year 1) (digitAt year 0 ∷ text 48 8 day 12) (is-digit (year / 10 ^ 1 % 10) (mod-lt (year / 10 ^ 1) (lit< tt)))
-    (matches-cons digit (fieldClasses digit 8 12) (digitAt year 0) (text 48 8 day 12) (is-digit (year / 10 ^ 0 % 10) (mod-lt (year / 10 ^ 0) (lit< tt)))
-    (text-matches digit 48 8 day tt (λ c t. t) 12))))
-    (exact rest1))
-    (sum-column cs h)
+    right-append (exactly start1) _ start1 _ (exact start1)
+    (digit-column _ (year / 10 ^ 1 % 10) _ (mod-lt (year / 10 ^ 1) (lit< tt))
+    (digit-column _ (year / 10 ^ 0 % 10) _ (mod-lt (year / 10 ^ 0) (lit< tt))
+    (right-append (fieldClasses digit digit 8 11) _ (text 48 8 day 12) _ (day-columns day) (right-append (exactly rest1) _ rest1 _ (exact rest1) (digit-column [] cs [] h ends)))))
+    0
 
--- line 2 is put together from the right
-tail2 : (u n cs : ℕ) → cs < 10 → T (matches (exactly middle2 ++ (fieldClasses padded 4 8 ++ (only 32 ∷ (fieldClasses padded 8 11 ++ (exactly end2 ++ (digit ∷ []))))))
-    (middle2 ++ (text 32 4 u 8 ++ (32 ∷ (text 32 8 n 11 ++ (end2 ++ ((cs + 48) ∷ [])))))))
+tail2 : (u n cs : ℕ) → cs < 10
+    → Right (exactly middle2 ++ (fieldClasses leading later 4 7 ++ (only 32 ∷ (fieldClasses leading later 8 10 ++ (exactly end2 ++ (digit ∷ []))))))
+    (middle2 ++ (text 32 4 u 8 ++ (32 ∷ (text 32 8 n 11 ++ (end2 ++ ((cs + 48) ∷ []))))))
 tail2 u n cs h =
-    matches-append (exactly middle2) _ middle2 _ (exact middle2)
-    (matches-append (fieldClasses padded 4 8) _ (text 32 4 u 8) _ (angle-columns u)
-    (blank _ _ (matches-append (fieldClasses padded 8 11) _ (text 32 8 n 11) _ (motion-columns n) (matches-append (exactly end2) _ end2 _ (exact end2) (sum-column cs h)))))
+    right-append (exactly middle2) _ middle2 _ (exact middle2)
+    (right-append (fieldClasses leading later 4 7) _ (text 32 4 u 8) _ (angle-columns u)
+    (blank-column _ _ (right-append (fieldClasses leading later 8 10) _ (text 32 8 n 11) _ (motion-columns n) (right-append (exactly end2) _ end2 _ (exact end2) (digit-column [] cs [] h ends)))))
 
 line2-columns : (i r u n cs : ℕ) → cs < 10
     → T (matches columns2 (start2 ++ (text 32 4 i 8 ++ (32 ∷ (text 32 4 r 8 ++ (middle2 ++ (text 32 4 u 8 ++ (32 ∷ (text 32 8 n 11 ++ (end2 ++ ((cs + 48) ∷ [])))))))))))
-unfolding columns2
+unfolding columns2 Right
 line2-columns i r u n cs h =
-    matches-append (exactly start2) _ start2 _ (exact start2)
-    (matches-append (fieldClasses padded 4 8) _ (text 32 4 i 8) _ (angle-columns i)
-    (blank _ _ (matches-append (fieldClasses padded 4 8) _ (text 32 4 r 8) _ (angle-columns r) (tail2 u n cs h))))
+    right-append (exactly start2) _ start2 _ (exact start2)
+    (right-append (fieldClasses leading later 4 7) _ (text 32 4 i 8) _ (angle-columns i)
+    (blank-column _ _ (right-append (fieldClasses leading later 4 7) _ (text 32 4 r 8) _ (angle-columns r) (tail2 u n cs h))))
+    0
 
 -- ---- each line
 record First (e : Epoch) (l : List ℕ) : Type 0 where
@@ -130,7 +147,7 @@ unfolding numberIn line1 closed body1 text
 line1-day e = refl
 
 line1-matches : (e : Epoch) → T (matches columns1 (line1 e))
-unfolding line1 closed body1
+unfolding line1 closed body1 text
 line1-matches e = line1-columns (e .year) (decimal 8 (e .day)) (checksumOf (body1 (e .year) (e .day))) (checksum-lt (body1 (e .year) (e .day)))
 
 first : (e : Epoch) → UpTo 367 (e .day) → First e (line1 e)

@@ -1,5 +1,5 @@
 -- A printed number, read back from its bytes, is the number; and each of its bytes is of its column's class. Assumes nothing.
-use mathlib.Core.Path.{_≡_, refl, sym, ap, _∙_}
+use mathlib.Core.Path.{_≡_, refl, sym, ap, _∙_, subst}
 use mathlib.Core.Logic.{_⊎_, inl, inr}
 use mathlib.Core.Bool.{Bool, true, false, not, _||_, cond}
 use mathlib.Core.List.{List, [], _∷_, _++_}
@@ -9,10 +9,11 @@ use native.Mathlib.Omega.{arith}
 use lib.Dec.{T, leb, ltb, eqb, lit<, eqb-refl, ltb→lt, nltb→le}
 use lib.Arith.{mod-mul}
 use lib.Ieee.Fits.{and-i, and-l, and-r}
-use borrow.Author.Tests.{lt-ltb, le-ltb, le-leb, eq-eqb, ne-eqb, leb-false}
+use borrow.Author.Tests.{lt-ltb, le-ltb, le-leb, lt-leb, eq-eqb, ne-eqb, leb-false, ltb-false, eqb-false}
 use Rattle.decimal.specs.Fixed.{digitAt, cellAt, text}
 use Rattle.decimal.proofs.Round.{ten-pos}
-use Rattle.tle.specs.Printed.{Class, only, digit, isDigit, admits, matches, exactly, value}
+use Rattle.decimal.specs.Read.{isDigit}
+use Rattle.tle.specs.Printed.{Class, only, digit, admits, matchesBehind, exactly, value}
 
 pub lt-or-ge : (a b : ℕ) → (a < b) ⊎ (b ≤ a)
 lt-or-ge a b = go (ltb a b) (ltb→lt a b) (nltb→le a b)
@@ -118,45 +119,93 @@ module _ (pad p n : ℕ) where
   pub value-text : (w : ℕ) → Pads → p ≤ w → n < 10 ^ w → value 0 (text pad p n (suc w)) ≡ n
   value-text w q h l = ap (λ (x : ℕ). value x (text pad p n (suc w))) (sym (div-eq-of-lt l)) ∙ left w q h
 
--- ---- the classes of a text's columns: left of the digit before the point, the class k
+-- ---- the classes of a text's columns: left of the digit before the point the class k, in the first column k₀
 abbrev pub cellClass : Class → ℕ → ℕ → Class
 cellClass k p i = cond (ltb i p) digit (cond (eqb i p) (only 46) (cond (eqb (i - 1) p) digit k))
 
-abbrev pub fieldClasses : Class → ℕ → ℕ → List Class
-fieldClasses k p zero = []
-fieldClasses k p (suc w) = cellClass k p w ∷ fieldClasses k p w
+abbrev pub laterClasses : Class → ℕ → ℕ → List Class
+laterClasses k p zero = []
+laterClasses k p (suc w) = cellClass k p w ∷ laterClasses k p w
+
+abbrev pub fieldClasses : Class → Class → ℕ → ℕ → List Class
+fieldClasses k₀ k p w = cellClass k₀ p w ∷ laterClasses k p w
 
 digit-at : (n i : ℕ) → T (isDigit (digitAt n i))
 digit-at n i = is-digit (n / 10 ^ i % 10) (mod-lt (n / 10 ^ i) (lit< tt))
 
-module _ (k : Class) (pad p n : ℕ) (own : T (admits k pad)) (any : (c : ℕ) → T (isDigit c) → T (admits k c)) where
-  admits-cell : (i : ℕ) (x y z t : Bool) → T (admits (cond x digit (cond y (only 46) (cond z digit k))) (cond x (digitAt n i) (cond y 46 (cond (z || t) (digitAt n (i - 1)) pad))))
-  admits-cell i true y z t = digit-at n i
-  admits-cell i false true z t = tt
-  admits-cell i false false true t = digit-at n (i - 1)
-  admits-cell i false false false true = any (digitAt n (i - 1)) (digit-at n (i - 1))
-  admits-cell i false false false false = own
+-- a class that takes every digit
+unfoldable pub Digital : Class → Type 0
+Digital k = (b c : ℕ) → T (isDigit c) → T (admits k b c)
 
-  pub text-matches : (w : ℕ) → T (matches (fieldClasses k p w) (text pad p n w))
-  unfolding matches text cellAt
-  text-matches zero = tt
-  text-matches (suc w) =
-      and-i (admits (cellClass k p w) (cellAt pad p n w)) (matches (fieldClasses k p w) (text pad p n w)) (admits-cell w (ltb w p) (eqb w p) (eqb (w - 1) p) (leb (10 ^ (w - 1)) n))
-      (text-matches w)
+module _ (pad p n : ℕ) where
+  admits-cell : (k : Class) (b i : ℕ) (x y z t : Bool) → Digital k → (x ≡ false → y ≡ false → z ≡ false → t ≡ false → T (admits k b pad))
+      → T (admits (cond x digit (cond y (only 46) (cond z digit k))) b (cond x (digitAt n i) (cond y 46 (cond (z || t) (digitAt n (i - 1)) pad))))
+  unfolding Digital
+  admits-cell k b i true y z t any own = digit-at n i
+  admits-cell k b i false true z t any own = tt
+  admits-cell k b i false false true t any own = digit-at n (i - 1)
+  admits-cell k b i false false false true any own = any b (digitAt n (i - 1)) (digit-at n (i - 1))
+  admits-cell k b i false false false false any own = own refl refl refl refl
 
-pub matches-append : (ks ls : List Class) (a b : List ℕ) → T (matches ks a) → T (matches ls b) → T (matches (ks ++ ls) (a ++ b))
-unfolding matches
-matches-append [] ls [] b p q = q
-matches-append [] ls (c ∷ a) b p q = absurd p
-matches-append (k ∷ ks) ls [] b p q = absurd p
-matches-append (k ∷ ks) ls (c ∷ a) b p q =
-    and-i (admits k c) (matches (ks ++ ls) (a ++ b)) (and-l (admits k c) (matches ks a) p) (matches-append ks ls a b (and-r (admits k c) (matches ks a) p) q)
+  -- a column is of its class if what pads it is, where it is a leading place and n has no digit there
+  column-admits : (k : Class) (b i : ℕ) → Digital k → (p + 1 < i → n < 10 ^ (i - 1) → T (admits k b pad)) → T (admits (cellClass k p i) b (cellAt pad p n i))
+  unfolding cellAt
+  column-admits k b i any own =
+      admits-cell k b i (ltb i p) (eqb i p) (eqb (i - 1) p) (leb (10 ^ (i - 1)) n) any (λ x y z t. own (beyond i x y z) (leb-false (10 ^ (i - 1)) n t))
+    where
+      beyond : (i : ℕ) → ltb i p ≡ false → eqb i p ≡ false → eqb (i - 1) p ≡ false → p + 1 < i
+      beyond i x y z = omega (arith, ltb-false i p x, eqb-false i p y, eqb-false (i - 1) p z)
 
-pub matches-cons : (k : Class) (ks : List Class) (c : ℕ) (l : List ℕ) → T (admits k c) → T (matches ks l) → T (matches (k ∷ ks) (c ∷ l))
-unfolding matches
-matches-cons k ks c l p q = and-i (admits k c) (matches ks l) p q
+  -- what pads a leading place stands on its left too
+  still : (u : ℕ) → p + 1 < u → n < 10 ^ (u - 1) → cellAt pad p n (suc u) ≡ pad
+  still zero h l = absurd (omega arith)
+  still (suc t) h l =
+      let e : suc t - 1 ≡ t = omega arith in
+      let m : 10 ^ suc t ≡ 10 ^ t * 10 = pow-suc 10 t in
+      let l′ : n < 10 ^ t = subst (λ (x : ℕ). n < 10 ^ x) e l in
+      cell-left pad p n (suc t) (omega arith) ∙ simp (ne-eqb (suc t) p (λ z. omega arith), lt-leb (10 ^ suc t) n (omega (arith, m)))
 
-pub exact : (l : List ℕ) → T (matches (exactly l) l)
-unfolding matches
-exact [] = tt
-exact (c ∷ l) = and-i (eqb c c) (matches (exactly l) l) (eqb-refl c) (exact l)
+  abbrev Padded : ℕ → ℕ → Type 0
+  Padded w b = (u : ℕ) → w ≡ suc u → p + 1 < u → n < 10 ^ (u - 1) → b ≡ pad
+
+  follows : (w : ℕ) → Padded w (cellAt pad p n w)
+  follows w u e h l = ap (cellAt pad p n) e ∙ still u h l
+
+  module _ (k : Class) (any : Digital k) (own : (b : ℕ) → b ≡ pad → T (admits k b pad)) where
+    later-matches : (w b : ℕ) → Padded w b → T (matchesBehind b (laterClasses k p w) (text pad p n w))
+    unfolding matchesBehind text
+    later-matches zero b f = tt
+    later-matches (suc w) b f =
+        and-i (admits (cellClass k p w) b (cellAt pad p n w)) (matchesBehind (cellAt pad p n w) (laterClasses k p w) (text pad p n w))
+        (column-admits k b w any (λ h l. own b (f w refl h l))) (later-matches w (cellAt pad p n w) (follows w))
+
+    pub field-matches : (k₀ : Class) → Digital k₀ → ((b : ℕ) → T (admits k₀ b pad)) → (w b : ℕ) → T (matchesBehind b (fieldClasses k₀ k p w) (text pad p n (suc w)))
+    unfolding matchesBehind text
+    field-matches k₀ any₀ own₀ w b =
+        and-i (admits (cellClass k₀ p w) b (cellAt pad p n w)) (matchesBehind (cellAt pad p n w) (laterClasses k p w) (text pad p n w))
+        (column-admits k₀ b w any₀ (λ h l. own₀ b)) (later-matches w (cellAt pad p n w) (follows w))
+
+-- ---- a list whose columns are right behind any byte
+unfoldable pub Right : List Class → List ℕ → Type 0
+Right ks l = (b : ℕ) → T (matchesBehind b ks l)
+
+pub right-cons : (k : Class) (ks : List Class) (c : ℕ) (l : List ℕ) → ((b : ℕ) → T (admits k b c)) → Right ks l → Right (k ∷ ks) (c ∷ l)
+unfolding Right matchesBehind
+right-cons k ks c l p q b = and-i (admits k b c) (matchesBehind c ks l) (p b) (q c)
+
+behind-append : (b : ℕ) (ks ls : List Class) (a l : List ℕ) → T (matchesBehind b ks a) → Right ls l → T (matchesBehind b (ks ++ ls) (a ++ l))
+unfolding Right matchesBehind
+behind-append b [] ls [] l p q = q b
+behind-append b [] ls (c ∷ a) l p q = absurd p
+behind-append b (k ∷ ks) ls [] l p q = absurd p
+behind-append b (k ∷ ks) ls (c ∷ a) l p q =
+    and-i (admits k b c) (matchesBehind c (ks ++ ls) (a ++ l)) (and-l (admits k b c) (matchesBehind c ks a) p) (behind-append c ks ls a l (and-r (admits k b c) (matchesBehind c ks a) p) q)
+
+pub right-append : (ks ls : List Class) (a l : List ℕ) → Right ks a → Right ls l → Right (ks ++ ls) (a ++ l)
+unfolding Right
+right-append ks ls a l p q b = behind-append b ks ls a l (p b) q
+
+pub exact : (l : List ℕ) → Right (exactly l) l
+unfolding Right matchesBehind
+exact [] b = tt
+exact (c ∷ l) b = and-i (eqb c c) (matchesBehind c (exactly l) l) (eqb-refl c) (exact l c)

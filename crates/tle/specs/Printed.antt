@@ -3,60 +3,80 @@ use mathlib.Core.Path.{_≡_}
 use mathlib.Core.Bool.{Bool, true, false, _&&_, _||_, cond}
 use mathlib.Core.List.{List, [], _∷_, _++_}
 use Prim.Native.Nat.{ℕ, zero, suc, _+_, _-_, _*_, _%_, _^_, _≤_}
-use lib.Dec.{T, leb, eqb}
+use lib.Dec.{T, eqb}
 use lib.ListN.{length, take, drop}
 use lib.Ieee.{Float}
 use lib.Ieee.Positive.{num, den}
+use Rattle.text.specs.Text.{bytes, code}
 use Rattle.decimal.specs.Fixed.{within}
+use Rattle.decimal.specs.Read.{isDigit}
 use Rattle.tle.specs.Elements.{printedDegrees, meanMotionOf, epochOf}
 use Rattle.tle.specs.Lines.{start1, rest1, start2, middle2, end2, checksumOf}
 use Rattle.solution.specs.declared.SolvedOrbit.{SolvedOrbit}
 
--- ---- what may stand in a column: one byte alone, a digit, or a digit or a blank
+-- ---- what may stand in a column: one byte alone; a digit; and in the leading places of a number, where zeros may be left out from the left,
+-- a digit or a blank in the first, in a later one a digit, or a blank behind a blank. The last whole place of a number is a digit.
 pub data Class : Type 0 where
   only : ℕ → Class
   digit : Class
-  padded : Class
+  leading : Class
+  later : Class
 
-abbrev pub isDigit : ℕ → Bool
-isDigit c = leb 48 c && leb c 57
+abbrev pub isBlank : ℕ → Bool
+isBlank c = eqb c (code " ")
 
-abbrev pub admits : Class → ℕ → Bool
-admits (only b) c = eqb c b
-admits digit c = isDigit c
-admits padded c = isDigit c || eqb c 32
+-- c may stand in a column of the class, behind the byte b
+abbrev pub admits : Class → ℕ → ℕ → Bool
+admits (only x) b c = eqb c x
+admits digit b c = isDigit c
+admits leading b c = isDigit c || isBlank c
+admits later b c = isDigit c || (isBlank b && isBlank c)
 
--- each byte is of its column's class, and there are as many as columns
-unfoldable pub matches : List Class → List ℕ → Bool
-matches [] [] = true
-matches [] (c ∷ l) = false
-matches (k ∷ ks) [] = false
-matches (k ∷ ks) (c ∷ l) = admits k c && matches ks l
+-- behind the byte b each byte is of its column's class, and there are as many as columns
+unfoldable pub matchesBehind : ℕ → List Class → List ℕ → Bool
+matchesBehind b [] [] = true
+matchesBehind b [] (c ∷ l) = false
+matchesBehind b (k ∷ ks) [] = false
+matchesBehind b (k ∷ ks) (c ∷ l) = admits k b c && matchesBehind c ks l
+
+-- of a whole line, before whose first byte there is none
+abbrev pub matches : List Class → List ℕ → Bool
+matches ks l = matchesBehind 0 ks l
 
 abbrev pub exactly : List ℕ → List Class
 exactly [] = []
 exactly (c ∷ l) = only c ∷ exactly l
 
--- n columns of one class
-abbrev pub run : ℕ → Class → List Class
-run zero k = []
-run (suc n) k = k ∷ run n k
+-- n columns of digits
+abbrev pub digits : ℕ → List Class
+digits zero = []
+digits (suc n) = digit ∷ digits n
 
+abbrev pub point : List Class
+point = exactly (bytes ".")
+
+abbrev pub blank : List Class
+blank = exactly (bytes " ")
+
+-- year, day of the year and checksum
 unfoldable pub columns1 : List Class
-columns1 = exactly start1 ++ run 5 digit ++ (only 46 ∷ []) ++ run 8 digit ++ exactly rest1 ++ run 1 digit
+columns1 = exactly start1 ++ digits 2 ++ digits 3 ++ point ++ digits 8 ++ exactly rest1 ++ digits 1
 
 abbrev pub angleColumns : List Class
-angleColumns = run 2 padded ++ run 1 digit ++ (only 46 ∷ []) ++ run 4 digit
+angleColumns = leading ∷ later ∷ digits 1 ++ point ++ digits 4
 
+abbrev pub motionColumns : List Class
+motionColumns = leading ∷ digits 1 ++ point ++ digits 8
+
+-- inclination, node, mean anomaly, mean motion and checksum
 unfoldable pub columns2 : List Class
 columns2 =
-    exactly start2 ++ angleColumns ++ (only 32 ∷ []) ++ angleColumns ++ exactly middle2 ++ angleColumns ++ (only 32 ∷ []) ++ run 1 padded ++ run 1 digit ++ (only 46 ∷ [])
-    ++ run 8 digit ++ exactly end2 ++ run 1 digit
+    exactly start2 ++ angleColumns ++ blank ++ angleColumns ++ exactly middle2 ++ angleColumns ++ blank ++ motionColumns ++ exactly end2 ++ digits 1
 
 -- ---- the number in columns a to b, its point and blanks left out
 unfoldable pub value : ℕ → List ℕ → ℕ
 value n [] = n
-value n (c ∷ l) = cond (isDigit c) (value (n * 10 + (c - 48)) l) (value n l)
+value n (c ∷ l) = cond (isDigit c) (value (n * 10 + (c - code "0")) l) (value n l)
 
 unfoldable pub numberIn : ℕ → ℕ → List ℕ → ℕ
 numberIn a b l = value 0 (take (b + 1 - a) (drop (a - 1) l))
