@@ -36,8 +36,8 @@ pub test-zero : (b : Bool) (k r : ℕ) → cond b (suc k) r ≡ 0 → (b ≡ fal
 test-zero true k r e = absurd (omega (arith, e))
 test-zero false k r e = (refl, e)
 
-pub accepts : (q : PassFile) (nt nf : ℕ) → File.refusalOf q nt nf ≡ 0 → Accepts q nt nf
-unfolding File.refusalOf
+pub accepts : (q : PassFile) (nt nf : ℕ) → File.passFileRefusal q nt nf ≡ 0 → Accepts q nt nf
+unfolding File.passFileRefusal
 accepts q nt nf e =
     let c : ℕ = cond (ltb nf (q .count)) 21 0 in
     let b : ℕ = cond (ltb nt (q .count)) 21 c in
@@ -49,7 +49,7 @@ accepts q nt nf e =
     record { good = l .0; few = ltb-false _ _ (m .0); times = ltb-false _ _ (t .0); freqs = ltb-false _ _ (f .0) }
 
 -- the answer's number is the refusal's
-answer-number : (file : List ℕ) (nt nf k : ℕ) → File.refusalOf (scanned file) nt nf ≡ k → File.answer file nt nf .refusal ≡ k
+answer-number : (file : List ℕ) (nt nf k : ℕ) → File.passFileRefusal (scanned file) nt nf ≡ k → File.answer file nt nf .refusal ≡ k
 unfolding File.answer zeros
 answer-number file nt nf zero e = simp (e, accepts (scanned file) nt nf e .good)
 answer-number file nt nf (suc k) e = simp (e, ne-eqb (suc k) 0 (λ (q : suc k ≡ 0). omega arith))
@@ -121,7 +121,7 @@ part-length s xs = length-take-le (length xs - s) (drop s xs) (rw length-drop (o
 
 module _ (file : List ℕ) (s : ℕ) (times : List ℤ) (freqs : List Float) where
   abbrev number : ℕ
-  number = File.refusalOf (scanned file) (length times - s) (length freqs - s)
+  number = File.passFileRefusal (scanned file) (length times - s) (length freqs - s)
 
   whole : {q : PassFile} {t : List ℤ} {f : List Float} → Reads file (part s times) t (part s freqs) f q → q ≡ answer number file
   unfolding File.answer
@@ -191,7 +191,7 @@ module _ (file : List ℕ) (p s : ℕ) (counts : List ℕ) (times : List ℤ) (f
           kept = λ (y : 0 < r .refusal). left (λ (w : q .refusal ≡ 0). omega (arith, k, w)) g;
         }
 
-    roomy : {n : ℕ} → (n ≡ 21 → ⊥) → File.refusalOf (scanned file) (length times - s) (length freqs - s) ≡ n
+    roomy : {n : ℕ} → (n ≡ 21 → ⊥) → File.passFileRefusal (scanned file) (length times - s) (length freqs - s) ≡ n
         → refusalOf (isFull p s (length counts) (length times) (length freqs) (length centers)) file (length times - s) (length freqs - s) ≡ n
     unfolding refusalOf
     roomy {n} h k = simp (open-room, k, ne-eqb n 21 h)

@@ -77,7 +77,7 @@ module _ (file : List ℕ) where
   good : (full : Bool) (nt nf : ℕ) → refusalOf full file nt nf ≡ 0 → scanned file .refusal ≡ 0
   unfolding refusalOf
   good full nt nf e =
-      let k : ℕ = File.refusalOf (scanned file) nt nf in
+      let k : ℕ = File.passFileRefusal (scanned file) nt nf in
       accepts (scanned file) nt nf (test-zero (eqb k 21) 4 k (test-zero full 4 (roomless k) e .1) .1) .good
 
   numbered : (k : ℕ) {q : PassFile} → (k ≡ 0 → scanned file .refusal ≡ 0) → q ≡ answer k file → q .refusal ≡ k

@@ -79,7 +79,7 @@ abbrev pub roomless : ℕ → ℕ
 roomless k = cond (eqb k refusal.short-memory) refusal.sizes k
 
 unfoldable pub refusalOf : Bool → List ℕ → ℕ → ℕ → ℕ
-refusalOf full file nt nf = cond full refusal.sizes (roomless (File.refusalOf (scanned file) nt nf))
+refusalOf full file nt nf = cond full refusal.sizes (roomless (File.passFileRefusal (scanned file) nt nf))
 
 -- what the file says, or zeros with the refusal's number k
 abbrev pub answer : ℕ → List ℕ → PassFile

@@ -13,7 +13,7 @@ use lib.Seq.{getD-append-add, drop-cons, drop-drop, take-all, take-at, drop-at, 
 use lib.Ieee.{nan, inf, binary64, round}
 use borrow.Author.Tests.{eq-eqb, ne-eqb, eqb-true, eqb-false, le-leb, lt-leb, leb-true}
 use Rattle.text.specs.Text.{bytes}
-use Rattle.decimal.specs.Read.{isDigit, run, value, lower, spells, name, sized, exponentAt, exponent, ended, unsigned, number}
+use Rattle.decimal.specs.Read.{isDigit, digitRun, withDigits, lower, spells, name, sized, exponentAt, exponent, ended, unsigned, number}
 use Rattle.decimal.specs.Grammar.{Digits, no-digit, digit, Sign, no-sign, plus, minus, Mantissa, whole, point-last, point-first, Exp, no-exp, exp, numeral, limited, Body, is-inf, is-infinity, is-nan, is-number, Written, written}
 use Rattle.decimal.specs.declared.read.Number.{Number}
 use Rattle.decimal.specs.declared.read.Number.the-variants.{Nothing, Value, Refused}
@@ -21,21 +21,21 @@ use Rattle.decimal.proofs.Scan.{present, spells-length}
 
 -- ---- runs of digits
 
-pub run-most : (l : List ℕ) → run l ≤ length l
-unfolding run
+pub run-most : (l : List ℕ) → digitRun l ≤ length l
+unfolding digitRun
 run-most [] = omega arith
 run-most (c ∷ l) = go (isDigit c) (run-most l)
   where
-    go : (b : Bool) → run l ≤ length l → cond b (suc (run l)) 0 ≤ suc (length l)
+    go : (b : Bool) → digitRun l ≤ length l → cond b (suc (digitRun l)) 0 ≤ suc (length l)
     go true h = omega arith
     go false h = omega arith
 
-pub run-digits : (l : List ℕ) → Digits (take (run l) l)
-unfolding run
+pub run-digits : (l : List ℕ) → Digits (take (digitRun l) l)
+unfolding digitRun
 run-digits [] = no-digit
 run-digits (c ∷ l) = go (isDigit c) refl (run-digits l)
   where
-    go : (b : Bool) → isDigit c ≡ b → Digits (take (run l) l) → Digits (take (cond b (suc (run l)) 0) (c ∷ l))
+    go : (b : Bool) → isDigit c ≡ b → Digits (take (digitRun l) l) → Digits (take (cond b (suc (digitRun l)) 0) (c ∷ l))
     go true e d = digit e d
     go false e d = no-digit
 
@@ -44,19 +44,19 @@ pub data Stops : List ℕ → Type 0 where
   at-end : Stops []
   at-other : {c : ℕ} {l : List ℕ} → isDigit c ≡ false → Stops (c ∷ l)
 
-pub digits-run : {ds : List ℕ} (r : List ℕ) → Digits ds → Stops r → run (ds ++ r) ≡ length ds
-unfolding run
+pub digits-run : {ds : List ℕ} (r : List ℕ) → Digits ds → Stops r → digitRun (ds ++ r) ≡ length ds
+unfolding digitRun
 digits-run r no-digit s = go r s
   where
-    go : (r : List ℕ) → Stops r → run r ≡ 0
+    go : (r : List ℕ) → Stops r → digitRun r ≡ 0
     go [] at-end = refl
     go (c ∷ r) (at-other e) = simp e
 digits-run r (digit e d) s = simp e (ap suc (digits-run r d s))
 
 -- ---- the number that digits write
 
-pub value-numeral : (a n : ℕ) (l : List ℕ) → value a n l ≡ numeral a (take n l)
-unfolding value numeral
+pub value-numeral : (a n : ℕ) (l : List ℕ) → withDigits a n l ≡ numeral a (take n l)
+unfolding withDigits numeral
 value-numeral a zero l = refl
 value-numeral a (suc n) [] = refl
 value-numeral a (suc n) (c ∷ l) = value-numeral (a * 10 + (c - 48)) n l
@@ -71,9 +71,9 @@ sized-limited : (s : Bool) (l : List ℕ) (w p : ℕ) (en : Bool) (x n : ℕ) (d
     → sized s l w p en x n ≡ limited s ds p en es
 unfolding sized limited
 sized-limited s l w p en x n ds es f g h k =
-    let d : value (value 0 w l) p (drop (w + 1) l) ≡ numeral 0 ds =
-    value-numeral (value 0 w l) p (drop (w + 1) l) ∙ ap (λ (a : ℕ). numeral a (take p (drop (w + 1) l))) (value-numeral 0 w l) ∙ numeral-join 0 (take w l) (take p (drop (w + 1) l)) ∙ ap (numeral 0) f in
-    let e : value 0 n (drop x l) ≡ numeral 0 es = value-numeral 0 n (drop x l) ∙ ap (numeral 0) h in
+    let d : withDigits (withDigits 0 w l) p (drop (w + 1) l) ≡ numeral 0 ds =
+    value-numeral (withDigits 0 w l) p (drop (w + 1) l) ∙ ap (λ (a : ℕ). numeral a (take p (drop (w + 1) l))) (value-numeral 0 w l) ∙ numeral-join 0 (take w l) (take p (drop (w + 1) l)) ∙ ap (numeral 0) f in
+    let e : withDigits 0 n (drop x l) ≡ numeral 0 es = value-numeral 0 n (drop x l) ∙ ap (numeral 0) h in
     (λ i. cond (ltb 19 (g i)) Refused (cond (ltb 2 (k i)) Refused (cond (ltb 30 (e i)) Refused (Value (round binary64 s (d i * 10 ^ cond en 0 (e i)) (10 ^ (p + cond en (e i) 0)))))))
 
 -- ---- from the scanner to the grammar
@@ -96,21 +96,21 @@ here l i h = drop-cons l i 0 h ∙ ap (λ (k : ℕ). getD l i 0 ∷ drop k l) (s
 module _ (s : Bool) (l : List ℕ) (w p : ℕ) (m ds : List ℕ) (f : Found l w p m ds) where
   exponent-at-said : (en : Bool) (x e : ℕ) (sg : List ℕ) → lower e ≡ 101 → Sign sg en → l ≡ m ++ (e ∷ (sg ++ drop x l)) → x ≤ length l → Said (Body s l) (exponentAt s l w p en x)
   unfolding exponentAt
-  exponent-at-said en x e sg le S L X = go (eqb (run (drop x l)) 0) refl (eqb (x + run (drop x l)) (length l)) refl
+  exponent-at-said en x e sg le S L X = go (eqb (digitRun (drop x l)) 0) refl (eqb (x + digitRun (drop x l)) (length l)) refl
     where
-      go : (a : Bool) → eqb (run (drop x l)) 0 ≡ a → (b : Bool) → eqb (x + run (drop x l)) (length l) ≡ b → Said (Body s l) (cond a Nothing (cond b (sized s l w p en x (run (drop x l))) Nothing))
+      go : (a : Bool) → eqb (digitRun (drop x l)) 0 ≡ a → (b : Bool) → eqb (x + digitRun (drop x l)) (length l) ≡ b → Said (Body s l) (cond a Nothing (cond b (sized s l w p en x (digitRun (drop x l))) Nothing))
       go true q b r = nothing
       go false q false r = nothing
       go false q true r =
-          let z : x + run (drop x l) ≡ length l = eqb-true (x + run (drop x l)) (length l) r in
+          let z : x + digitRun (drop x l) ≡ length l = eqb-true (x + digitRun (drop x l)) (length l) r in
           let k = length-drop x l in
-          let o : run (drop x l) ≡ length (drop x l) = omega arith in
-          let t : take (run (drop x l)) (drop x l) ≡ drop x l = take-all (run (drop x l)) (drop x l) (omega arith) in
-          let nz = eqb-false (run (drop x l)) 0 q in
+          let o : digitRun (drop x l) ≡ length (drop x l) = omega arith in
+          let t : take (digitRun (drop x l)) (drop x l) ≡ drop x l = take-all (digitRun (drop x l)) (drop x l) (omega arith) in
+          let nz = eqb-false (digitRun (drop x l)) 0 q in
           let more : 0 < length (drop x l) = omega arith in
           this
-          (subst (λ (t : List ℕ). Body s t (sized s l w p en x (run (drop x l)))) (sym L)
-          (subst (Body s (m ++ (e ∷ (sg ++ drop x l)))) (sym (sized-limited s l w p en x (run (drop x l)) ds (drop x l) (f .digits) (f .count) t o))
+          (subst (λ (t : List ℕ). Body s t (sized s l w p en x (digitRun (drop x l)))) (sym L)
+          (subst (Body s (m ++ (e ∷ (sg ++ drop x l)))) (sym (sized-limited s l w p en x (digitRun (drop x l)) ds (drop x l) (f .digits) (f .count) t o))
           (is-number (f .is) (exp e sg en (drop x l) le S (subst Digits t (run-digits (drop x l))) more))))
 
   exponent-said : (i : ℕ) → lower (getD l i 0) ≡ 101 → l ≡ m ++ drop i l → i < length l → Said (Body s l) (exponent s l w p i)
@@ -169,7 +169,7 @@ unfolding ended
 ended-name s l w p i e = rw (eq-eqb (w + p) 0 e) (name-said s l)
 
 -- digits, a point, digits
-pointed-said : (s : Bool) (l : List ℕ) (w p : ℕ) → w ≡ run l → getD l w 0 ≡ 46 → p ≡ run (drop (w + 1) l) → Said (Body s l) (ended s l w p (w + 1 + p))
+pointed-said : (s : Bool) (l : List ℕ) (w p : ℕ) → w ≡ digitRun l → getD l w 0 ≡ 46 → p ≡ digitRun (drop (w + 1) l) → Said (Body s l) (ended s l w p (w + 1 + p))
 pointed-said s l w p ew e ep =
     elim (eq-zero-or-pos (w + p)) [
       | inl z ↦ ended-name s l w p (w + 1 + p) z
@@ -218,7 +218,7 @@ pointed-said s l w p ew e ep =
         ∙ sym (append-assoc ws (46 ∷ ps) (drop (w + 1 + p) l))
 
 -- digits alone
-plain-said : (s : Bool) (l : List ℕ) (w : ℕ) → w ≡ run l → Said (Body s l) (ended s l w 0 w)
+plain-said : (s : Bool) (l : List ℕ) (w : ℕ) → w ≡ digitRun l → Said (Body s l) (ended s l w 0 w)
 plain-said s l w ew =
     elim (eq-zero-or-pos w) [
       | inl z ↦ ended-name s l w 0 w (omega arith)
@@ -245,11 +245,11 @@ plain-said s l w ew =
 
 unsigned-said : (s : Bool) (l : List ℕ) → Said (Body s l) (unsigned s l)
 unfolding unsigned
-unsigned-said s l = go (eqb (getD l (run l) 0) 46) refl
+unsigned-said s l = go (eqb (getD l (digitRun l) 0) 46) refl
   where
-    go : (b : Bool) → eqb (getD l (run l) 0) 46 ≡ b → Said (Body s l) (cond b (ended s l (run l) (run (drop (run l + 1) l)) (run l + 1 + run (drop (run l + 1) l))) (ended s l (run l) 0 (run l)))
-    go true e = pointed-said s l (run l) (run (drop (run l + 1) l)) refl (eqb-true (getD l (run l) 0) 46 e) refl
-    go false e = plain-said s l (run l) refl
+    go : (b : Bool) → eqb (getD l (digitRun l) 0) 46 ≡ b → Said (Body s l) (cond b (ended s l (digitRun l) (digitRun (drop (digitRun l + 1) l)) (digitRun l + 1 + digitRun (drop (digitRun l + 1) l))) (ended s l (digitRun l) 0 (digitRun l)))
+    go true e = pointed-said s l (digitRun l) (digitRun (drop (digitRun l + 1) l)) refl (eqb-true (getD l (digitRun l) 0) 46 e) refl
+    go false e = plain-said s l (digitRun l) refl
 
 with-sign : {s t : List ℕ} {n : Bool} {v : Number} → Sign s n → Said (Body n t) v → Said (Written (s ++ t)) v
 with-sign S nothing = nothing
@@ -316,7 +316,7 @@ module _ (s : Bool) (l : List ℕ) (w p : ℕ) (m ds : List ℕ) (f : Found l w 
   exponent-at-takes : (en : Bool) (x : ℕ) (es : List ℕ) → drop x l ≡ es → Digits es → 0 < length es → x + length es ≡ length l → exponentAt s l w p en x ≡ limited s ds p en es
   unfolding exponentAt
   exponent-at-takes en x es e D h k =
-      let n : run (drop x l) ≡ length es = ap run (e ∙ sym (append-nil es)) ∙ digits-run [] D at-end in
+      let n : digitRun (drop x l) ≡ length es = ap digitRun (e ∙ sym (append-nil es)) ∙ digits-run [] D at-end in
       let t : take (length es) (drop x l) ≡ es = ap (take (length es)) e ∙ take-all (length es) es (omega arith) in
       (λ i. cond (eqb (n i) 0) Nothing (cond (eqb (x + n i) (length l)) (sized s l w p en x (n i)) Nothing))
       ∙ simp (ne-eqb (length es) 0 (λ (z : length es ≡ 0). omega arith), eq-eqb (x + length es) (length l) k)
@@ -366,7 +366,7 @@ pointed-takes : (s : Bool) (ws ps : List ℕ) {x : List ℕ} {en : Bool} {es : L
     → unsigned s ((ws ++ 46 ∷ ps) ++ x) ≡ limited s (ws ++ ps) (length ps) en es
 unfolding unsigned
 pointed-takes s ws ps {x = x} {en = en} {es = es} W P X M h =
-    (λ i. cond (eqb (getD l (rw₁ i) 0) 46) (ended s l (rw₁ i) (run (drop (rw₁ i + 1) l)) (rw₁ i + 1 + run (drop (rw₁ i + 1) l))) (ended s l (rw₁ i) 0 (rw₁ i)))
+    (λ i. cond (eqb (getD l (rw₁ i) 0) 46) (ended s l (rw₁ i) (digitRun (drop (rw₁ i + 1) l)) (rw₁ i + 1 + digitRun (drop (rw₁ i + 1) l))) (ended s l (rw₁ i) 0 (rw₁ i)))
     ∙ simp (eq-eqb (getD l (length ws) 0) 46 point)
     (ap (λ (p : ℕ). ended s l (length ws) p (length ws + 1 + p)) run-ps ∙ ended-takes s l (length ws) (length ps) (ws ++ 46 ∷ ps) (ws ++ ps) found (length ws + 1 + length ps) (omega (arith, length-append ws (46 ∷ ps))) X refl)
   where
@@ -376,8 +376,8 @@ pointed-takes s ws ps {x = x} {en = en} {es = es} W P X M h =
     same : l ≡ ws ++ (46 ∷ (ps ++ x))
     same = append-assoc ws (46 ∷ ps) x
 
-    rw₁ : run l ≡ length ws
-    rw₁ = ap run same ∙ digits-run (46 ∷ (ps ++ x)) W (at-other refl)
+    rw₁ : digitRun l ≡ length ws
+    rw₁ = ap digitRun same ∙ digits-run (46 ∷ (ps ++ x)) W (at-other refl)
 
     point : getD l (length ws) 0 ≡ 46
     point = ap (λ (y : List ℕ). getD y (length ws) 0) same ∙ getD-at ws 46 (ps ++ x) 0 (length ws) refl
@@ -385,8 +385,8 @@ pointed-takes s ws ps {x = x} {en = en} {es = es} W P X M h =
     behind : drop (length ws + 1) l ≡ ps ++ x
     behind = ap (drop (length ws + 1)) same ∙ at-place ws (46 ∷ (ps ++ x)) (length ws) 1 refl
 
-    run-ps : run (drop (length ws + 1) l) ≡ length ps
-    run-ps = ap run behind ∙ digits-run x P (exp-stops X)
+    run-ps : digitRun (drop (length ws + 1) l) ≡ length ps
+    run-ps = ap digitRun behind ∙ digits-run x P (exp-stops X)
 
     found : Found l (length ws) (length ps) (ws ++ 46 ∷ ps) (ws ++ ps)
     found =
@@ -400,11 +400,11 @@ pointed-takes s ws ps {x = x} {en = en} {es = es} W P X M h =
 plain-takes : (s : Bool) (ws : List ℕ) {x : List ℕ} {en : Bool} {es : List ℕ} → Digits ws → Exp x en es → 0 < length ws → unsigned s (ws ++ x) ≡ limited s ws 0 en es
 unfolding unsigned
 plain-takes s ws {x = x} {en = en} {es = es} W X h =
-    (λ i. cond (eqb (getD (ws ++ x) (rw₁ i) 0) 46) (ended s (ws ++ x) (rw₁ i) (run (drop (rw₁ i + 1) (ws ++ x))) (rw₁ i + 1 + run (drop (rw₁ i + 1) (ws ++ x)))) (ended s (ws ++ x) (rw₁ i) 0 (rw₁ i)))
+    (λ i. cond (eqb (getD (ws ++ x) (rw₁ i) 0) 46) (ended s (ws ++ x) (rw₁ i) (digitRun (drop (rw₁ i + 1) (ws ++ x))) (rw₁ i + 1 + digitRun (drop (rw₁ i + 1) (ws ++ x)))) (ended s (ws ++ x) (rw₁ i) 0 (rw₁ i)))
     ∙ simp (ne-eqb (getD (ws ++ x) (length ws) 0) 46 no-point)
     (ended-takes s (ws ++ x) (length ws) 0 ws ws found (length ws) refl X refl)
   where
-    rw₁ : run (ws ++ x) ≡ length ws
+    rw₁ : digitRun (ws ++ x) ≡ length ws
     rw₁ = digits-run x W (exp-stops X)
 
     other : {x : List ℕ} {en : Bool} {es : List ℕ} → Exp x en es → getD x 0 0 ≡ 46 → ⊥
@@ -446,7 +446,7 @@ first-same a l b w e = go (eqb (lower a) b) refl e
 
 -- a word that begins with a letter goes to `name`
 word-takes : (s : Bool) (a : ℕ) (l : List ℕ) → 65 ≤ a → unsigned s (a ∷ l) ≡ name s (a ∷ l)
-unfolding unsigned ended run
+unfolding unsigned ended digitRun
 word-takes s a l h = simp (le-leb 48 a (omega arith), lt-leb a 57 (omega arith), ne-eqb a 46 (λ (z : a ≡ 46). omega arith))
 
 other-first : (a : ℕ) (l w : List ℕ) → lower a ≡ 110 → spells (a ∷ l) (105 ∷ w) ≡ false

@@ -14,8 +14,8 @@ unfoldable pub within : Float → Bool
 within v = not (lt v (fin false 0 (pos 0))) && lt v (fin false 125 (pos 3))
 
 -- the whole number nearest to v * 10 ^ p, a tie to the even one: v is num v / den v
-abbrev pub decimal : ℕ → Float → ℕ
-decimal p v = closest (num v * 10 ^ p) (den v)
+abbrev pub nearestUnits : ℕ → Float → ℕ
+nearestUnits p v = closest (num v * 10 ^ p) (den v)
 
 -- the digit of n at 10 ^ i, as a byte
 abbrev pub digitAt : ℕ → ℕ → ℕ
@@ -27,11 +27,11 @@ cellAt pad p n i =
     cond (ltb i p) (digitAt n i) (cond (eqb i p) (code ".") (cond (eqb (i - 1) p || leb (10 ^ (i - 1)) n) (digitAt n (i - 1)) pad))
 
 -- its w last columns, from the left
-unfoldable pub text : ℕ → ℕ → ℕ → ℕ → List ℕ
-text pad p n zero = []
-text pad p n (suc w) = cellAt pad p n w ∷ text pad p n w
+unfoldable pub fixedText : ℕ → ℕ → ℕ → ℕ → List ℕ
+fixedText pad p n zero = []
+fixedText pad p n (suc w) = cellAt pad p n w ∷ fixedText pad p n w
 
 -- v prints with p places, 8 at most, in w columns from `at` of a slice of n bytes: no digit is cut off, and the columns are there
 unfoldable pub printable : Float → ℕ → ℕ → ℕ → ℕ → Bool
 printable v p w at n =
-    within v && (leb p 8 && (leb (p + 2) w && (leb w 16 && (leb at n && (leb w (n - at) && ltb (decimal p v) (10 ^ (w - 1)))))))
+    within v && (leb p 8 && (leb (p + 2) w && (leb w 16 && (leb at n && (leb w (n - at) && ltb (nearestUnits p v) (10 ^ (w - 1)))))))

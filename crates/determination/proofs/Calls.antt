@@ -11,7 +11,7 @@ use lib.Seq.{sets, sets-eq, length-sets, take-at}
 use lib.Ieee.{Float}
 use borrow.Author.Tests.{le-ltb, ne-eqb}
 use Rattle.frame.specs.declared.Vec3.{Vec3}
-use Rattle.stored.specs.Numbers.{taken}
+use Rattle.stored.specs.Numbers.{numbersIn}
 use Rattle.stored.specs.Sets.{passesIn, countsIn, samplesIn, timesIn, freqsIn, sizedRight, loadRefusal, loaded, Loads}
 use Rattle.stored.specs.declared.Loaded.{Loaded}
 use Rattle.stored.proofs.Whole.{fits}
@@ -61,8 +61,8 @@ bytes-refusal b = go (sizedRight b) refl
         let f = fits b e in
         rw (e, le-ltb 16 (passesIn b) (f .passes), le-ltb 4096 (samplesIn b) (f .samples))
 
-length-taken : {A : Type 0} (w : ℕ) (f : ℕ → A) (n : ℕ) (l : List ℕ) → length (taken w f n l) ≡ n
-unfolding taken
+length-taken : {A : Type 0} (w : ℕ) (f : ℕ → A) (n : ℕ) (l : List ℕ) → length (numbersIn w f n l) ≡ n
+unfolding numbersIn
 length-taken w f zero l = refl
 length-taken w f (suc n) l = ap suc (length-taken w f n (drop w l))
 

@@ -195,7 +195,7 @@ module _ (x : Arguments) (w w′ : Outputs) (scratch scratch′ : List Float) (r
   accepted = let p = passed x (roomOf w scratch) none-refused in rw (is-found, is-filled) (found x w p (book-tried x (p .low)))
 
   module _ (name text text′ : List ℕ) (c : Catalog) (g : Formats name (r .orbit) text text′ c) (printed : c .refusal ≡ 0) where
-    lines-accepted : tle.refusalOf name (r .orbit) (length text) ≡ 0
+    lines-accepted : tle.linesRefusal name (r .orbit) (length text) ≡ 0
     lines-accepted = sym (g .refusal) ∙ printed
 
     text-is : text′ ≡ catalogOf name (r .orbit) ++ drop (length name + 141) text

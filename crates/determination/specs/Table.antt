@@ -7,7 +7,7 @@ use lib.IntN.{pos, negsuc}
 use lib.ListN.{take, replicate}
 use lib.Ieee.{Float, neg}
 use Rattle.float.specs.Constant.{decimal}
-use Rattle.moment.specs.Time.{unitsOf}
+use Rattle.moment.specs.Time.{unitsBetween}
 use Rattle.moment.specs.Sample.{sampleCount}
 use Rattle.frame.specs.Julian.{datetimeToJdOf}
 use Rattle.frame.specs.declared.JulianDate.the-variants.{At}
@@ -52,8 +52,8 @@ table =
     -- JD of 2000-01-01T12:00:00Z
     (datetimeToJdOf (record { seconds = pos 946728000; nanos = 0 }) is At (whole 2451545))
     -- −1,500 ns and −999 ns in µs
-    ∷ (unitsOf 1000 (sampleCount (negsuc 1499)) (sampleCount (pos 0)) is negsuc 0)
-    ∷ (unitsOf 1000 (sampleCount (negsuc 998)) (sampleCount (pos 0)) is pos 0)
+    ∷ (unitsBetween 1000 (sampleCount (negsuc 1499)) (sampleCount (pos 0)) is negsuc 0)
+    ∷ (unitsBetween 1000 (sampleCount (negsuc 998)) (sampleCount (pos 0)) is pos 0)
     ∷ (monnaMapOf 6 2 is mapped.Value (decimal 375 3))
     ∷ (inverseMonnaMapOf (decimal 375 3) 2 16 is inverse.Value 6)
     ∷ (monnaMapOf (2 ^ 64 - 1) 2 is mapped.Value (whole 1))

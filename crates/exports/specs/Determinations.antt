@@ -6,6 +6,6 @@ use Rattle.determination.specs.declared.Determination.{Determination}
 use Rattle.exports.specs.Fits.{fitted}
 
 -- the orbit, its trials and best sum; the lines' refusal and number of bytes; the fit's refusal
-abbrev pub determination : SolvedOrbit → ℕ → Float → (lines length r : ℕ) → Determination
-determination orbit trials best lines length r =
-    record { fit = fitted orbit trials best r; lines = record { refusal = lines; length = length } }
+abbrev pub determination : (orbit : SolvedOrbit) (trials : ℕ) (best : Float) (lines size r : ℕ) → Determination
+determination orbit trials best lines size r =
+    record { fit = fitted orbit trials best r; lines = record { refusal = lines; length = size } }

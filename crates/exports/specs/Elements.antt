@@ -11,8 +11,8 @@ use Rattle.exports.specs.Answers.{moment}
 abbrev pub six : State → List Float
 six s = s .x ∷ s .y ∷ s .z ∷ s .vx ∷ s .vy ∷ s .vz ∷ []
 
-abbrev pub orbit : (a i raan0 u0 : Float) → ℤ → ℕ → SolvedOrbit
+abbrev pub orbit : (a i raan0 u0 : Float) (seconds : ℤ) (nanos : ℕ) → SolvedOrbit
 orbit a i raan0 u0 s n = record { a = a; i = i; raan0 = raan0; u0 = u0; epoch = moment s n }
 
-abbrev pub FormatsTo : List ℕ → SolvedOrbit → (out out′ : List ℕ) (length r : ℕ) → Type 0
-FormatsTo name o out out′ length r = Formats name o out out′ (record { refusal = r; length = length })
+abbrev pub FormatsTo : (name : List ℕ) (o : SolvedOrbit) (out out′ : List ℕ) (size r : ℕ) → Type 0
+FormatsTo name o out out′ size r = Formats name o out out′ (record { refusal = r; length = size })

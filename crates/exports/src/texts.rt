@@ -43,7 +43,7 @@ pub extern "C" fn wisvalom_put_fixed(
     width: usize,
 ) -> bool
     ensures { λ r. ⌜ r ≡ Fixed.printable v places width at (length (now (out .entry))) ⌝ }
-    ensures { λ r. ⌜ now (out .exit) ≡ cond r (sets (now (out .entry)) at (Fixed.text pad places (Fixed.decimal places v) width)) (now (out .entry)) ⌝ }
+    ensures { λ r. ⌜ now (out .exit) ≡ cond r (sets (now (out .entry)) at (Fixed.fixedText pad places (Fixed.nearestUnits places v) width)) (now (out .entry)) ⌝ }
 {
     decimal::fixed::put_fixed(v, places, pad, out, at, width)
 }

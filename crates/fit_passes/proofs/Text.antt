@@ -9,7 +9,7 @@ use lib.Ieee.{Float}
 use lib.ListN.{length, drop, length-append}
 use borrow.Author.Tests.{ne-eqb}
 use Rattle.tle.specs.Lines.{catalogOf}
-use Rattle.tle.specs.Answer.{refusalOf, Formats}
+use Rattle.tle.specs.Answer.{linesRefusal, Formats}
 use Rattle.tle.specs.declared.Catalog.{Catalog}
 use Rattle.tle.proofs.Answers.{catalog-length}
 use Rattle.solution.specs.declared.SolvedOrbit.{SolvedOrbit}
@@ -18,7 +18,7 @@ use Rattle.determination.specs.Calls.{Determines}
 use Rattle.determination.specs.declared.Determination.{Determination}
 
 module _ (name : List ℕ) (o : SolvedOrbit) (out : List ℕ) {out′ : List ℕ} {r : Catalog} (h : Formats name o out out′ r) where
-  by-number : (k : ℕ) → refusalOf name o (length out) ≡ k → r .length ≤ length out′
+  by-number : (k : ℕ) → linesRefusal name o (length out) ≡ k → r .length ≤ length out′
   by-number zero e =
       let n : r .length ≡ length name + 141 = rw e at (h .written) in
       let t : out′ ≡ catalogOf name o ++ drop (length name + 141) out = rw e at (h .text) in
@@ -29,7 +29,7 @@ module _ (name : List ℕ) (o : SolvedOrbit) (out : List ℕ) {out′ : List ℕ
       omega (arith, z)
 
   text-room : r .length ≤ length out′
-  text-room = by-number (refusalOf name o (length out)) refl
+  text-room = by-number (linesRefusal name o (length out)) refl
 
 -- a refused fit has none
 module _ {x : Arguments} {w w′ : Outputs} {scratch scratch′ : List Float} (name text : List ℕ) {text′ : List ℕ} {d : Determination} (h : Determines x w w′ scratch scratch′ name text text′ d) where

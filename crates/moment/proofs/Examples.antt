@@ -3,26 +3,26 @@ use mathlib.Core.Path.{_≡_, refl}
 use mathlib.Core.Bool.{true, false}
 use Prim.Native.Nat.{_+_, _-_, _*_}
 use lib.IntN.{pos, negsuc}
-use Rattle.moment.specs.Time.{secondsOf, unitsOf, overOf}
+use Rattle.moment.specs.Time.{secondsOf, unitsBetween, overOf}
 use Rattle.moment.specs.Range.{inRange}
 use Rattle.moment.specs.Sample.{momentAt}
 use Rattle.moment.specs.Calendar.{leap, yearLength, monthLength, monthsLength, daysToYear, dateOf, tomorrowIn, ordinalOf, dayNumber}
 
 -- −1,500 ns is −1 µs, −999 ns is 0; −1,000,000,001 ns is −1,000,000 µs and −1,000 ms
-micros-1500 : unitsOf 1000 8500 10000 ≡ negsuc 0
-unfolding unitsOf
+micros-1500 : unitsBetween 1000 8500 10000 ≡ negsuc 0
+unfolding unitsBetween
 micros-1500 = refl
 
-micros-999 : unitsOf 1000 9001 10000 ≡ pos 0
-unfolding unitsOf
+micros-999 : unitsBetween 1000 9001 10000 ≡ pos 0
+unfolding unitsBetween
 micros-999 = refl
 
-micros-second : unitsOf 1000 999999999 2000000000 ≡ negsuc 999999
-unfolding unitsOf
+micros-second : unitsBetween 1000 999999999 2000000000 ≡ negsuc 999999
+unfolding unitsBetween
 micros-second = refl
 
-millis-second : unitsOf 1000000 999999999 2000000000 ≡ negsuc 999
-unfolding unitsOf
+millis-second : unitsBetween 1000000 999999999 2000000000 ≡ negsuc 999
+unfolding unitsBetween
 millis-second = refl
 
 -- −1 ns is 23:59:59.999999999 of the day before 1970-01-01, −1,000,000,000 ns a whole second before

@@ -13,7 +13,7 @@ use Rattle.float.specs.Ops.{_⊗_, _⊘_}
 use Rattle.float.proofs.Rounding as rounded
 use borrow.Author.Tests.{leb-true, leb-false}
 use lib.Dec.{leb}
-use Rattle.moment.specs.Time.{unitsOf, tauMillisOf, million, thousand}
+use Rattle.moment.specs.Time.{unitsBetween, tauMillisOf, million, thousand}
 
 -- finite, and at most b in size
 abbrev AtMost : ℕ → Float → Type 0
@@ -78,8 +78,8 @@ cut-at-most (fin false m e) h =
 
 -- ---- a difference of two moments within 4·10^9 s of each other
 
-millis-small : (b : Bool) (t e : ℕ) → leb e t ≡ b → t < e + 4000000000000000000 → e < t + 4000000000000000000 → natAbs (unitsOf 1000000 t e) < 4000000000000
-unfolding unitsOf
+millis-small : (b : Bool) (t e : ℕ) → leb e t ≡ b → t < e + 4000000000000000000 → e < t + 4000000000000000000 → natAbs (unitsBetween 1000000 t e) < 4000000000000
+unfolding unitsBetween
 millis-small true t e q h g = let l = leb-true e t q in simp q (omega arith)
 millis-small false t e q h g = let l = leb-false e t q in simp (q, abs-neg) (omega arith)
 
@@ -89,4 +89,4 @@ pub shift-micros : (t e : ℕ) → t < e + 4000000000000000000 → e < t + 40000
 unfolding tauMillisOf
 shift-micros t e h g =
     cut-at-most (tauMillisOf t e ⊗ million)
-    (times-million (tauMillisOf t e) (over-thousand (ofInt binary64 (unitsOf 1000000 t e)) (of-int (unitsOf 1000000 t e) (millis-small (leb e t) t e refl h g))))
+    (times-million (tauMillisOf t e) (over-thousand (ofInt binary64 (unitsBetween 1000000 t e)) (of-int (unitsBetween 1000000 t e) (millis-small (leb e t) t e refl h g))))

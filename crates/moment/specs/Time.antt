@@ -37,8 +37,8 @@ movedOf t unit (pos n) = t + n * unit
 movedOf t unit (negsuc n) = t - suc n * unit
 
 -- whole units of so many nanoseconds from e to t, cut toward zero
-unfoldable pub unitsOf : ℕ → ℕ → ℕ → ℤ
-unitsOf unit t e = cond (leb e t) (pos ((t - e) / unit)) (negℤ (pos ((e - t) / unit)))
+unfoldable pub unitsBetween : ℕ → ℕ → ℕ → ℤ
+unitsBetween unit t e = cond (leb e t) (pos ((t - e) / unit)) (negℤ (pos ((e - t) / unit)))
 
 -- microseconds and milliseconds of a second
 unfoldable pub million : Float
@@ -57,9 +57,9 @@ thousand-bits = refl
 
 -- seconds from e to t: whole microseconds over a million, and whole milliseconds over a thousand
 unfoldable pub tauOf : ℕ → ℕ → Float
-unfolding unitsOf
-tauOf t e = ofInt binary64 (unitsOf 1000 t e) ⊘ million
+unfolding unitsBetween
+tauOf t e = ofInt binary64 (unitsBetween 1000 t e) ⊘ million
 
 unfoldable pub tauMillisOf : ℕ → ℕ → Float
-unfolding unitsOf
-tauMillisOf t e = ofInt binary64 (unitsOf 1000000 t e) ⊘ thousand
+unfolding unitsBetween
+tauMillisOf t e = ofInt binary64 (unitsBetween 1000000 t e) ⊘ thousand

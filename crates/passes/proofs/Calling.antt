@@ -21,8 +21,8 @@ use Rattle.rfc3339.specs.declared.Timestamp.{Timestamp}
 use Rattle.rfc3339.specs.declared.Timestamp.the-variants as Time
 use Rattle.passes.specs.Text.{Placed, push, startsLf, lines, blank, blanks, keep, trimEnd, trim, until, ascii}
 use Rattle.refusal.specs.Numbers as refusal
-use Rattle.passes.specs.Line.{inside, since1970, sampleOf, pairOf, fields, sample, centerOf, named, header, text, lineOf}
-use Rattle.passes.specs.File.{opening, zeros, advance, after, scanned, refusalOf, answer, nameOf, Reads}
+use Rattle.passes.specs.Line.{inside, since1970, sampleOf, pairOf, fields, sample, centerOf, named, header, trimmedLine, lineOf}
+use Rattle.passes.specs.File.{opening, zeros, advance, after, scanned, passFileRefusal, answer, nameOf, Reads}
 use Rattle.passes.specs.Called.{valueOf, headed, calledIn, later, lastCalled, partOf}
 use Rattle.passes.specs.declared.line.Line.{Line}
 use Rattle.passes.specs.declared.line.Line.the-variants.{Skipped, Refusal, Name, Center, Sample}
@@ -144,8 +144,8 @@ module _ (l : List ℕ) where
       go true e = refl
       go false e = named-tells _ _ _ (part-drop (until 58 h + 1) (omega (arith, until-most 58 h, eqb-false (until 58 h) (length h) e)) p)
 
-  text-tells : (s : ℕ) (t : List ℕ) → Part l s t → Tells l (text s t) (headed t)
-  unfolding text headed
+  text-tells : (s : ℕ) (t : List ℕ) → Part l s t → Tells l (trimmedLine s t) (headed t)
+  unfolding trimmedLine headed
   text-tells s [] p = refl
   text-tells s (c ∷ t) p = subst (λ (b : Bool). Tells l (cond b Skipped (cond (eqb c 35) (header (s + 1) t) (sample (c ∷ t)))) (cond (eqb c 35) (valueOf t) none)) (sym (ne-eqb (suc (length t)) 0 (λ (e : suc (length t) ≡ 0). omega arith))) (go (eqb c 35))
     where
@@ -157,7 +157,7 @@ module _ (l : List ℕ) where
   unfolding lineOf calledIn
   line-tells = go (not (ascii l)) (ltb 256 (length l)) refusal.non-ascii refusal.long-line
     where
-      go : (a b : Bool) (j k : ℕ) → Tells l (cond a (Refusal j) (cond b (Refusal k) (text (blanks l) (trim l)))) (cond a none (cond b none (headed (trim l))))
+      go : (a b : Bool) (j k : ℕ) → Tells l (cond a (Refusal j) (cond b (Refusal k) (trimmedLine (blanks l) (trim l)))) (cond a none (cond b none (headed (trim l))))
       go true b j k = refl
       go false true j k = refl
       go false false j k = text-tells (blanks l) (trim l) (subst (λ (s : ℕ). Part l s (trim l)) (zero-add (blanks l)) (part-trim (part-all l)))
@@ -270,7 +270,7 @@ module _ (file : List ℕ) where
   -- the theorem
   pub name-part : (nt nf : ℕ) → answer file nt nf .refusal ≡ 0 → partOf file (answer file nt nf) ≡ lastCalled none (lines 0 file)
   unfolding answer zeros
-  name-part nt nf e = go (refusalOf (scanned file) nt nf) (eqb (refusalOf (scanned file) nt nf) 0) refl e
+  name-part nt nf e = go (passFileRefusal (scanned file) nt nf) (eqb (passFileRefusal (scanned file) nt nf) 0) refl e
     where
       go : (k : ℕ) (b : Bool) → eqb k 0 ≡ b → cond b (scanned file) (zeros k) .refusal ≡ 0 → partOf file (cond b (scanned file) (zeros k)) ≡ lastCalled none (lines 0 file)
       go k true h f = scanned-name f

@@ -14,7 +14,7 @@ use Rattle.rfc3339.specs.Rfc3339.{dateTimeOf}
 use Rattle.rfc3339.specs.declared.Timestamp.{Timestamp}
 use Rattle.rfc3339.specs.declared.Timestamp.the-variants as Time
 use Rattle.passes.specs.Text.{blank, blanks, keep, trimEnd, trim, until, ascii}
-use Rattle.passes.specs.Line.{inside, sampleOf, pairOf, fields, sample, centerOf, named, header, text, lineOf}
+use Rattle.passes.specs.Line.{inside, sampleOf, pairOf, fields, sample, centerOf, named, header, trimmedLine, lineOf}
 use Rattle.passes.specs.declared.line.Line.{Line}
 use Rattle.passes.specs.declared.line.Line.the-variants.{Skipped, Refusal, Name, Center, Sample}
 
@@ -114,8 +114,8 @@ module _ (n : ℕ) where
       go true e = skipped-in
       go false e = named-in _ _ _ (omega (arith, until-most 58 h, eqb-false (until 58 h) (length h) e, length-drop (until 58 h + 1) h))
 
-  text-in : (s : ℕ) (t : List ℕ) → s + length t ≤ n → Within n (text s t)
-  unfolding text
+  text-in : (s : ℕ) (t : List ℕ) → s + length t ≤ n → Within n (trimmedLine s t)
+  unfolding trimmedLine
   text-in s t l = go (eqb (length t) 0) refl
     where
       go : (b : Bool) → eqb (length t) 0 ≡ b → Within n (cond b Skipped (cond (eqb (getD t 0 0) 35) (header (s + 1) (drop 1 t)) (sample t)))

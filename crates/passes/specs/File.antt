@@ -62,8 +62,8 @@ freqsOf (l ∷ ls) = freqBefore (lineOf (l .bytes)) (freqsOf ls)
 
 -- The refusal of the first offending line; after the last line 5 for over 4,096 samples, then 21 where `times` and `freqs`, of nt and
 -- nf places, have no room for them.
-unfoldable pub refusalOf : PassFile → ℕ → ℕ → ℕ
-refusalOf p nt nf =
+unfoldable pub passFileRefusal : PassFile → ℕ → ℕ → ℕ
+passFileRefusal p nt nf =
     first (
     (p .refusal if not (eqb (p .refusal) 0))
     ∷ (refusal.sizes if ltb 4096 (p .count))
@@ -76,7 +76,7 @@ abbrev pub scanned : List ℕ → PassFile
 scanned file = after opening (lines 0 file)
 
 unfoldable pub answer : List ℕ → ℕ → ℕ → PassFile
-answer file nt nf = let k = refusalOf (scanned file) nt nf in cond (eqb k 0) (scanned file) (zeros k)
+answer file nt nf = let k = passFileRefusal (scanned file) nt nf in cond (eqb k 0) (scanned file) (zeros k)
 
 -- the name as a part of the file; empty where the answer is of another file
 unfoldable pub nameOf : List ℕ → PassFile → List ℕ

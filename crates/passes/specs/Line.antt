@@ -60,8 +60,8 @@ unfoldable pub header : ℕ → List ℕ → Line
 header s h = let k = until (code ":") h in cond (eqb k (length h)) Skipped (named (trim (take k h)) (s + (k + 1)) (drop (k + 1) h))
 
 -- a line without the blanks at its ends, of which s stood before it
-unfoldable pub text : ℕ → List ℕ → Line
-text s t = cond (eqb (length t) 0) Skipped (cond (eqb (getD t 0 0) (code "#")) (header (s + 1) (drop 1 t)) (sample t))
+unfoldable pub trimmedLine : ℕ → List ℕ → Line
+trimmedLine s t = cond (eqb (length t) 0) Skipped (cond (eqb (getD t 0 0) (code "#")) (header (s + 1) (drop 1 t)) (sample t))
 
 unfoldable pub lineOf : List ℕ → Line
-lineOf l = cond (not (ascii l)) (Refusal refusal.non-ascii) (cond (ltb 256 (length l)) (Refusal refusal.long-line) (text (blanks l) (trim l)))
+lineOf l = cond (not (ascii l)) (Refusal refusal.non-ascii) (cond (ltb 256 (length l)) (Refusal refusal.long-line) (trimmedLine (blanks l) (trim l)))

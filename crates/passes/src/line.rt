@@ -139,7 +139,7 @@ fn header(h: &[u8], s: usize) -> Line
 // A line without the blanks at its ends, of which s stood before it.
 fn trimmed(t: &[u8], s: usize) -> Line
     requires { ⌜ s + length (now t) < 9223372036854775808 ⌝ }
-    ensures { λ r. ⌜ r ≡ Spec.text s (now (t .entry)) ⌝ }
+    ensures { λ r. ⌜ r ≡ Spec.trimmedLine s (now (t .entry)) ⌝ }
 {
     if t.len() == 0 {
         return Line::Skipped;

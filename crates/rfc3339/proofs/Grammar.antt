@@ -9,11 +9,11 @@ use lib.Dec.{leb, ltb, eqb}
 use lib.ListN.{length, getD, take, drop, length-drop, length-append, take-append-drop}
 use lib.Seq.{drop-cons, drop-drop, getD-drop, take-all, take-take, take-at, drop-at, length-take-le}
 use borrow.Author.Tests.{eq-eqb, ne-eqb, eqb-true, eqb-false, ltb-true, ltb-false, leb-true}
-use Rattle.decimal.specs.Read.{run, value, lower}
+use Rattle.decimal.specs.Read.{digitRun, withDigits, lower}
 use Rattle.decimal.specs.Grammar.{numeral}
 use Rattle.decimal.proofs.Grammar.{run-most, run-digits, Stops, letter, letter-stops, at-other, digits-run, value-numeral}
 use Rattle.decimal.proofs.Scan.{present}
-use Rattle.rfc3339.specs.Rfc3339.{fits, matches, layout, hourMinute, twoDigits, validDate, validTime, nanos, numoffset, timeOffset, timeSecfrac, seconds, dateTime, dateTimeOf}
+use Rattle.rfc3339.specs.Rfc3339.{placeFits, matches, layout, hourMinute, twoDigits, validDate, validTime, nanos, numoffset, timeOffset, timeSecfrac, seconds, dateTime, dateTimeOf}
 use Rattle.rfc3339.specs.Grammar.{pair, full-date, Secfrac, no-secfrac, secfrac, partial-time, Offset, zulu, ahead, behind, DateTime, date-time}
 use Rattle.rfc3339.specs.declared.Timestamp.{Timestamp}
 use Rattle.rfc3339.specs.declared.Timestamp.the-variants.{Nothing, At}
@@ -30,15 +30,15 @@ two a b = (a - 48) * 10 + (b - 48)
 
 data Fits : List ℕ → List ℕ → Type 0 where
   fits-end : {l : List ℕ} → Fits [] l
-  fits-more : {p c : ℕ} {ps l : List ℕ} → fits p c ≡ true → Fits ps l → Fits (p ∷ ps) (c ∷ l)
+  fits-more : {p c : ℕ} {ps l : List ℕ} → placeFits p c ≡ true → Fits ps l → Fits (p ∷ ps) (c ∷ l)
 
 matched : (ps l : List ℕ) → matches ps l ≡ true → Fits ps l
 unfolding matches
 matched [] l e = fits-end
 matched (p ∷ ps) [] e = let z : _≡_ {A = ℕ} 0 1 = cc in absurd (omega arith)
-matched (p ∷ ps) (c ∷ l) e = go (fits p c) refl (matched ps l) e
+matched (p ∷ ps) (c ∷ l) e = go (placeFits p c) refl (matched ps l) e
   where
-    go : (b : Bool) → fits p c ≡ b → (matches ps l ≡ true → Fits ps l) → (b && matches ps l) ≡ true → Fits (p ∷ ps) (c ∷ l)
+    go : (b : Bool) → placeFits p c ≡ b → (matches ps l ≡ true → Fits ps l) → (b && matches ps l) ≡ true → Fits (p ∷ ps) (c ∷ l)
     go true q ih f = fits-more q (ih f)
     go false q ih f = let z : _≡_ {A = ℕ} 0 1 = cc in absurd (omega arith)
 
@@ -102,7 +102,7 @@ module _ (s n : ℕ) where
   -- a sign and hh:mm
   signed-said : (c : ℕ) {t : List ℕ} → Fits hourMinute t → length t ≡ 5
       → Said (Utc s n (c ∷ t)) (cond (validTime (twoDigits t 0) (twoDigits t 3) 0) (cond (eqb c 43) (At (s - (twoDigits t 0 * 3600 + twoDigits t 3 * 60)) n) (cond (eqb c 45) (At (s + (twoDigits t 0 * 3600 + twoDigits t 3 * 60)) n) Nothing)) Nothing)
-  unfolding fits
+  unfolding placeFits
   signed-said c (fits-more fa (fits-more fb (fits-more fx (fits-more fd (fits-more fe (fits-end {l = y ∷ r})))))) h = absurd (omega arith)
   signed-said c (fits-more {c = a} fa (fits-more {c = b} fb (fits-more {c = x} fx (fits-more {c = d} fd (fits-more {c = e} fe (fits-end {l = []})))))) h =
       go (validTime (two a b) (two d e) 0) refl (eqb c 43) refl (eqb c 45) refl
@@ -144,7 +144,7 @@ module _ (s n : ℕ) where
       go false e = nothing
 
   offset-takes : {o : List ℕ} {a b : ℕ} → Offset o a b → timeOffset o 0 s n ≡ At (s + b - a) n
-  unfolding timeOffset numoffset matches fits
+  unfolding timeOffset numoffset matches placeFits
   offset-takes (zulu z e) = simp (eq-eqb (lower z) 122 e) (ap (λ (x : ℕ). At x n) (sym (ap (λ (x : ℕ). x - 0) (add-zero s) ∙ sub-zero s)))
   offset-takes (ahead (pair a b fa fb) (pair d e fd fe) v) = simp (fa, fb, fd, fe, v) (ap (λ (x : ℕ). At (x - (two a b * 3600 + two d e * 60)) n) (sym (add-zero s)))
   offset-takes (behind (pair a b fa fb) (pair d e fd fe) v) = simp (fa, fb, fd, fe, v) (ap (λ (x : ℕ). At x n) (sym (sub-zero (s + (two a b * 3600 + two d e * 60)))))
@@ -155,7 +155,7 @@ nanos-are : (l q ds : List ℕ) (n : ℕ) → drop 20 l ≡ q → take n q ≡ d
 unfolding nanos
 nanos-are l q ds n e f g = go (ltb n 9) refl
   where
-    go : (b : Bool) → ltb n 9 ≡ b → cond b (value 0 n (drop 20 l) * 10 ^ (9 - n)) (value 0 9 (drop 20 l)) ≡ numeral 0 (take 9 ds) * 10 ^ (9 - length ds)
+    go : (b : Bool) → ltb n 9 ≡ b → cond b (withDigits 0 n (drop 20 l) * 10 ^ (9 - n)) (withDigits 0 9 (drop 20 l)) ≡ numeral 0 (take 9 ds) * 10 ^ (9 - length ds)
     go true h =
         let k = ltb-true n 9 h in
         let t : take 9 ds ≡ ds = take-all 9 ds (omega arith) in
@@ -177,19 +177,19 @@ with-frac F (this (utc o)) = this (rest F o)
 module _ (l : List ℕ) (s : ℕ) (h : 19 ≤ length l) where
   secfrac-said : Said (Rest s (drop 19 l)) (timeSecfrac l s)
   unfolding timeSecfrac
-  secfrac-said = go (eqb (getD l 19 0) 46) refl (eqb (run (drop 20 l)) 0) refl
+  secfrac-said = go (eqb (getD l 19 0) 46) refl (eqb (digitRun (drop 20 l)) 0) refl
     where
       q : List ℕ
       q = drop 20 l
 
       n : ℕ
-      n = run (drop 20 l)
+      n = digitRun (drop 20 l)
 
       found : getD l 19 0 ≡ 46 → 19 < length l
       found e = present l 19 46 e (omega arith)
 
-      go : (b : Bool) → eqb (getD l 19 0) 46 ≡ b → (d : Bool) → eqb (run (drop 20 l)) 0 ≡ d
-          → Said (Rest s (drop 19 l)) (cond b (cond d Nothing (timeOffset l (20 + run (drop 20 l)) s (nanos l (run (drop 20 l))))) (timeOffset l 19 s 0))
+      go : (b : Bool) → eqb (getD l 19 0) 46 ≡ b → (d : Bool) → eqb (digitRun (drop 20 l)) 0 ≡ d
+          → Said (Rest s (drop 19 l)) (cond b (cond d Nothing (timeOffset l (20 + digitRun (drop 20 l)) s (nanos l (digitRun (drop 20 l))))) (timeOffset l 19 s 0))
       go false e d g = subst (Said (Rest s (drop 19 l))) (sym (offset-shift l 19 h s 0)) (with-frac no-secfrac (offset-said s 0 (drop 19 l)))
       go true e true g = nothing
       go true e false g =
@@ -226,7 +226,7 @@ secfrac-takes l s {o = o} h e no-secfrac O =
     (offset-shift l 19 h s 0 ∙ ap (λ (x : List ℕ). timeOffset x 0 s 0) e ∙ offset-takes s 0 O)
 secfrac-takes l s {o = o} h e (secfrac ds D k) O =
     let q : drop 20 l ≡ ds ++ o = sym (drop-drop 1 19 l) ∙ ap (drop 1) e in
-    let n : run (drop 20 l) ≡ length ds = ap run q ∙ digits-run o D (offset-first O) in
+    let n : digitRun (drop 20 l) ≡ length ds = ap digitRun q ∙ digits-run o D (offset-first O) in
     let m = ap length e in
     let j = length-drop 19 l in
     let i = length-append ds o in
@@ -243,7 +243,7 @@ secfrac-takes l s {o = o} h e (secfrac ds D k) O =
 
 date-said : {l : List ℕ} → Fits layout l
     → Said (DateTime l) (dateTime l (twoDigits l 0 * 100 + twoDigits l 2) (twoDigits l 5) (twoDigits l 8) (twoDigits l 11) (twoDigits l 14) (twoDigits l 17))
-unfolding dateTime fits
+unfolding dateTime placeFits
 date-said (fits-more {c = y1} fy1 (fits-more {c = y2} fy2 (fits-more {c = y3} fy3 (fits-more {c = y4} fy4 (fits-more {c = x1} fx1 (fits-more {c = m1} fm1 (fits-more {c = m2} fm2 (fits-more {c = x2} fx2 (fits-more {c = d1} fd1 (fits-more {c = d2} fd2 (fits-more {c = t} ft (fits-more {c = h1} fh1 (fits-more {c = h2} fh2 (fits-more {c = x3} fx3 (fits-more {c = i1} fi1 (fits-more {c = i2} fi2 (fits-more {c = x4} fx4 (fits-more {c = s1} fs1 (fits-more {c = s2} fs2 (fits-end {l = r})))))))))))))))))))) =
     go (validDate (two y1 y2 * 100 + two y3 y4) (two m1 m2) (two d1 d2)) refl (validTime (two h1 h2) (two i1 i2) (two s1 s2)) refl
   where
@@ -283,7 +283,7 @@ only-grammar l = go (matches layout l) refl
 
 -- The scanner takes every text of the grammar for its moment.
 pub all-grammar : {l : List ℕ} {v : Timestamp} → DateTime l v → dateTimeOf l ≡ v
-unfolding dateTimeOf dateTime matches fits
+unfolding dateTimeOf dateTime matches placeFits
 all-grammar (date-time {o = o} t (full-date (pair y1 y2 fy1 fy2) (pair y3 y4 fy3 fy4) (pair m1 m2 fm1 fm2) (pair d1 d2 fd1 fd2) p) e (partial-time {f = f} (pair h1 h2 fh1 fh2) (pair i1 i2 fi1 fi2) (pair s1 s2 fs1 fs2) q F) O) =
     simp (fy1, fy2, fy3, fy4, fm1, fm2, fd1, fd2, eq-eqb (lower t) 116 e, fh1, fh2, fi1, fi2, fs1, fs2, p, q)
     (secfrac-takes (y1 ∷ y2 ∷ y3 ∷ y4 ∷ 45 ∷ m1 ∷ m2 ∷ 45 ∷ d1 ∷ d2 ∷ t ∷ h1 ∷ h2 ∷ 58 ∷ i1 ∷ i2 ∷ 58 ∷ s1 ∷ s2 ∷ (f ++ o)) (seconds (two y1 y2 * 100 + two y3 y4) (two m1 m2) (two d1 d2) (two h1 h2) (two i1 i2) (two s1 s2)) (omega arith) refl F O)

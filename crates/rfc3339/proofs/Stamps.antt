@@ -10,7 +10,7 @@ use lib.Dec.{lit<, leb, ltb, eqb}
 use lib.ListN.{length, getD, take, drop, drop-of-length-le, length-drop}
 use lib.Seq.{drop-cons, take-all}
 use lib.Pow.{pow-add}
-use Rattle.rfc3339.specs.Rfc3339.{fits, matches, validTime, validDate}
+use Rattle.rfc3339.specs.Rfc3339.{placeFits, matches, validTime, validDate}
 use Rattle.moment.specs.Calendar.{leap, monthLength}
 use borrow.Author.Tests.{ltb-false, leb-true, eqb-false}
 
@@ -18,7 +18,7 @@ use borrow.Author.Tests.{ltb-false, leb-true, eqb-false}
 here : (l : List ℕ) (i : ℕ) → i < length l → drop i l ≡ getD l i 0 ∷ drop (i + 1) l
 here l i h = drop-cons l i 0 h ∙ ap (λ (k : ℕ). getD l i 0 ∷ drop k l) (sym (add-one i))
 
-pub matches-next : (p l : List ℕ) (i : ℕ) → i < length p → i < length l → matches (drop i p) (drop i l) ≡ (fits (getD p i 0) (getD l i 0) && matches (drop (i + 1) p) (drop (i + 1) l))
+pub matches-next : (p l : List ℕ) (i : ℕ) → i < length p → i < length l → matches (drop i p) (drop i l) ≡ (placeFits (getD p i 0) (getD l i 0) && matches (drop (i + 1) p) (drop (i + 1) l))
 unfolding matches
 matches-next p l i h g = (λ j. matches (here p i h j) (here l i g j))
 

@@ -6,20 +6,20 @@ use mathlib.Core.List.{List, [], _∷_}
 use lib.Dec.{leb, ltb, eqb}
 use lib.ListN.{length, getD, drop}
 use Rattle.text.specs.Text.{bytes, code}
-use Rattle.decimal.specs.Read.{isDigit, run, value, lower}
+use Rattle.decimal.specs.Read.{isDigit, digitRun, withDigits, lower}
 use Rattle.moment.specs.Calendar.{leap, monthLength, monthsLength, daysToYear}
 use Rattle.rfc3339.specs.declared.Timestamp.{Timestamp}
 use Rattle.rfc3339.specs.declared.Timestamp.the-variants.{Nothing, At}
 
 -- A byte where a pattern has p: any digit for a 0, else p itself, a letter in either case. p is in lower case.
-unfoldable pub fits : ℕ → ℕ → Bool
-fits p c = cond (eqb p (code "0")) (isDigit c) (eqb (lower c) p)
+unfoldable pub placeFits : ℕ → ℕ → Bool
+placeFits p c = cond (eqb p (code "0")) (isDigit c) (eqb (lower c) p)
 
 -- l starts as the pattern says
 unfoldable pub matches : List ℕ → List ℕ → Bool
 matches [] l = true
 matches (p ∷ ps) [] = false
-matches (p ∷ ps) (c ∷ l) = fits p c && matches ps l
+matches (p ∷ ps) (c ∷ l) = placeFits p c && matches ps l
 
 -- a date and a time of day
 abbrev pub layout : List ℕ
@@ -43,7 +43,7 @@ validTime h m s = cond (ltb 23 h) false (cond (ltb 59 m) false (leb s 59))
 
 -- The first nine of the n digits at 20, as billionths: those past nine are dropped.
 unfoldable pub nanos : List ℕ → ℕ → ℕ
-nanos l n = cond (ltb n 9) (value 0 n (drop 20 l) * 10 ^ (9 - n)) (value 0 9 (drop 20 l))
+nanos l n = cond (ltb n 9) (withDigits 0 n (drop 20 l) * 10 ^ (9 - n)) (withDigits 0 9 (drop 20 l))
 
 -- Local time becomes UTC: an offset stands at z, of a sign, hours to 23 and minutes to 59. RFC 3339: time-numoffset.
 unfoldable pub numoffset : List ℕ → ℕ → ℕ → ℕ → Timestamp
@@ -64,15 +64,15 @@ timeOffset l z s n =
 -- Behind the seconds a point and at least one digit may stand.
 unfoldable pub timeSecfrac : List ℕ → ℕ → Timestamp
 timeSecfrac l s =
-    let n = run (drop 20 l) in
+    let n = digitRun (drop 20 l) in
     cond (eqb (getD l 19 0) (code ".")) (cond (eqb n 0) Nothing (timeOffset l (20 + n) s (nanos l n))) (timeOffset l 19 s 0)
 
 -- Seconds of local time, from a day before the year 0000: with that day no offset leads below 0.
-abbrev pub seconds : ℕ → ℕ → ℕ → ℕ → ℕ → ℕ → ℕ
+abbrev pub seconds : (year month day hour minute second : ℕ) → ℕ
 seconds y m d h mi s = (daysToYear y + monthsLength (leap y) (m - 1) + d) * 86400 + h * 3600 + mi * 60 + s
 
 -- the year, month, day, hour, minute and second of l
-unfoldable pub dateTime : List ℕ → ℕ → ℕ → ℕ → ℕ → ℕ → ℕ → Timestamp
+unfoldable pub dateTime : (l : List ℕ) (year month day hour minute second : ℕ) → Timestamp
 dateTime l y m d h mi s = cond (validDate y m d) (cond (validTime h mi s) (timeSecfrac l (seconds y m d h mi s)) Nothing) Nothing
 
 unfoldable pub dateTimeOf : List ℕ → Timestamp
@@ -91,7 +91,7 @@ pub record Two (l : List ℕ) (i r : ℕ) : Type 0 where
 
 -- n digits stand at 20
 pub record Fraction (l : List ℕ) (n : ℕ) : Type 0 where
-  pub digits : n ≡ run (drop 20 l)
+  pub digits : n ≡ digitRun (drop 20 l)
   pub inside : 20 + n ≤ length l
 
 pub record Nanos (l : List ℕ) (n r : ℕ) : Type 0 where

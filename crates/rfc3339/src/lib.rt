@@ -2,7 +2,7 @@
 ghost use mathlib.Core.Path.{_≡_};
 ghost use Prim.Native.Nat.{_+_, _-_, _*_, _≤_, _<_};
 ghost use lib.ListN.{length, drop};
-ghost use Rattle.decimal.specs.Read.{run};
+ghost use Rattle.decimal.specs.Read.{digitRun};
 ghost use Rattle.rfc3339.specs.Rfc3339 as Rfc;
 use decimal::fixed;
 use decimal::read;
@@ -16,7 +16,7 @@ pub enum Timestamp {
 
 // The byte c stands where a pattern has p.
 fn fits(p: u8, c: u8) -> bool
-    ensures { λ r. ⌜ r ≡ Rfc.fits p c ⌝ }
+    ensures { λ r. ⌜ r ≡ Rfc.placeFits p c ⌝ }
 {
     if p == b'0' {
         if c < 48 {

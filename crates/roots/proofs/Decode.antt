@@ -15,7 +15,7 @@ use lib.Ieee.Exact.{HasValue, odd-sign}
 use lib.Ieee.Positive.{first-pos}
 use Rattle.roots.specs.Root.{rootOf, sqrtOf}
 use Rattle.roots.specs.Cube.{cubeRootOf, cbrtOf}
-use Rattle.roots.specs.Parts.{unitsOf, IsParts}
+use Rattle.roots.specs.Parts.{patternUnits, IsParts}
 use Rattle.roots.proofs.Units.{low-units, high-units}
 
 abbrev pub 0f : Float
@@ -207,13 +207,13 @@ high-value x F h l k e =
     small b k h e = omega arith
 
 -- what `split` gives of the pattern
-units-value : (x : Float) → T (fits binary64 x) → lt 0f x ≡ true → toBits binary64 x < 0x7ff0000000000000 → HasValue x false (unitsOf (toBits binary64 x)) (2 ^ 1074)
+units-value : (x : Float) → T (fits binary64 x) → lt 0f x ≡ true → toBits binary64 x < 0x7ff0000000000000 → HasValue x false (patternUnits (toBits binary64 x)) (2 ^ 1074)
 units-value x F h l = go (toBits binary64 x / 4503599627370496) refl
   where
     low : (b : ℕ) → b / 4503599627370496 ≡ 0 → b < 4503599627370496
     low b e = omega arith
 
-    go : (k : ℕ) → toBits binary64 x / 4503599627370496 ≡ k → HasValue x false (unitsOf (toBits binary64 x)) (2 ^ 1074)
+    go : (k : ℕ) → toBits binary64 x / 4503599627370496 ≡ k → HasValue x false (patternUnits (toBits binary64 x)) (2 ^ 1074)
     go zero e = let s = low (toBits binary64 x) e in subst (λ (a : ℕ). HasValue x false a (2 ^ 1074)) (sym (low-units (toBits binary64 x) s)) (low-value x F h s)
     go (suc k) e =
         subst (λ (a : ℕ). HasValue x false a (2 ^ 1074)) (ap (λ (z : ℕ). z * 2 ^ k) (add-comm (2 ^ 52) (toBits binary64 x % 4503599627370496)) ∙ sym (high-units (toBits binary64 x) k e)) (high-value x F h l k e)
@@ -234,7 +234,7 @@ module _ (root : ℕ → Float) (E : ℕ) (of : Float → Float) (at : (m : ℕ)
   of-parts x F h l c d q m e P = ap root (ap (λ (z : ℕ). m * 2 ^ z) (flat e) ∙ ap (λ (z : ℕ). m * z) (pow-add 2 e (c + d)) ∙ sym (mul-assoc m (2 ^ e) (2 ^ (c + d))) ∙ same) ∙ of-value x a (first-pos a (2 ^ 52) (subst (λ (z : ℕ). 0 < z) (P .is) (mul-pos (lt-of-lt-of-le (lit≤ tt) (P .least)) (pow-pos e)))) (units-value x F h l)
     where
       a : ℕ
-      a = unitsOf (toBits binary64 x)
+      a = patternUnits (toBits binary64 x)
 
       flat : (e : ℕ) → e + c + d ≡ e + (c + d)
       flat e = omega arith

@@ -6,18 +6,18 @@ use native.Mathlib.Omega.{arith}
 use mathlib.Core.Bool.{Bool, cond}
 use lib.Dec.{eqb, eqb·suc-zero}
 use lib.Pow.{pow-add}
-use Rattle.roots.specs.Parts.{unitsOf, IsParts}
+use Rattle.roots.specs.Parts.{patternUnits, IsParts}
 
 -- ---- by the exponent's field
-pub low-units : (b : ℕ) → b < 4503599627370496 → unitsOf b ≡ b
-unfolding unitsOf
+pub low-units : (b : ℕ) → b < 4503599627370496 → patternUnits b ≡ b
+unfolding patternUnits
 low-units b h = ap (λ (k : ℕ). cond (eqb k 0) b ((b % 4503599627370496 + 4503599627370496) * 2 ^ (k - 1))) (small b h)
   where
     small : (b : ℕ) → b < 4503599627370496 → b / 4503599627370496 ≡ 0
     small b h = omega arith
 
-pub high-units : (b k : ℕ) → b / 4503599627370496 ≡ suc k → unitsOf b ≡ (b % 4503599627370496 + 4503599627370496) * 2 ^ k
-unfolding unitsOf
+pub high-units : (b k : ℕ) → b / 4503599627370496 ≡ suc k → patternUnits b ≡ (b % 4503599627370496 + 4503599627370496) * 2 ^ k
+unfolding patternUnits
 high-units b k e = ap (λ (j : ℕ). cond (eqb j 0) b ((b % 4503599627370496 + 4503599627370496) * 2 ^ (j - 1))) e ∙ ap (λ (t : Bool). cond t b ((b % 4503599627370496 + 4503599627370496) * 2 ^ (suc k - 1))) (eqb·suc-zero k) ∙ ap (λ (j : ℕ). (b % 4503599627370496 + 4503599627370496) * 2 ^ j) (back k)
   where
     back : (k : ℕ) → suc k - 1 ≡ k

@@ -15,7 +15,7 @@ use borrow.Author.Tests.{ltb-true, ltb-false, lt-ltb, le-ltb, eq-eqb, not-true}
 use Rattle.moment.specs.Sample.{timeInRange, timesInRange}
 use Rattle.moment.proofs.Samples.{and-true}
 use Rattle.pass_set.specs.PassSet.{total, Sizes}
-use Rattle.stored.specs.Numbers.{le, bytes, timeBits, timeOf, taken, written}
+use Rattle.stored.specs.Numbers.{littleEndian, lowBytes, timeBits, timeOf, numbersIn, written}
 use Rattle.stored.specs.Sets.{passesIn, countsIn, samplesIn, timesIn, freqsIn, sizedRight, bytesOf}
 use Rattle.stored.proofs.Runs.{length-bytes}
 use Rattle.stored.proofs.Whole.{Fits, by-length, length-written}
@@ -26,16 +26,16 @@ use Rattle.stored.proofs.Whole as whole
 split : (v : ℕ) → v % 256 + 256 * (v / 256) ≡ v
 split v = omega arith
 
-pub le-bytes : (n v : ℕ) (r : List ℕ) → v < 256 ^ n → le n (bytes n v ++ r) ≡ v
-unfolding le bytes
+pub le-bytes : (n v : ℕ) (r : List ℕ) → v < 256 ^ n → littleEndian n (lowBytes n v ++ r) ≡ v
+unfolding littleEndian lowBytes
 le-bytes zero v r h = omega (arith, h)
 le-bytes (suc n) v r h = ap (λ (x : ℕ). v % 256 + 256 * x) (le-bytes n (v / 256) r (less (pow-suc 256 n))) ∙ split v
   where
     less : 256 ^ suc n ≡ 256 ^ n * 256 → v / 256 < 256 ^ n
     less e = omega arith
 
-pub drop-bytes : (n v : ℕ) (r : List ℕ) → drop n (bytes n v ++ r) ≡ r
-unfolding bytes
+pub drop-bytes : (n v : ℕ) (r : List ℕ) → drop n (lowBytes n v ++ r) ≡ r
+unfolding lowBytes
 drop-bytes zero v r = refl
 drop-bytes (suc n) v r = drop-bytes n (v / 256) r
 
@@ -46,15 +46,15 @@ abbrev pub All : {A : Type 0} → (A → Type 0) → List A → Type 0
 All P [] = Unit {0}
 All P (x ∷ xs) = P x × All P xs
 
-pub bytes-le : (n : ℕ) (l : List ℕ) → n ≤ length l → All Byte l → bytes n (le n l) ≡ take n l
-unfolding le bytes
+pub bytes-le : (n : ℕ) (l : List ℕ) → n ≤ length l → All Byte l → lowBytes n (littleEndian n l) ≡ take n l
+unfolding littleEndian lowBytes
 bytes-le zero l h a = refl
 bytes-le (suc n) [] h a = absurd (omega arith)
 bytes-le (suc n) (b ∷ l) h a =
     let m = a .0 .most in
-    let p : (b + 256 * le n l) % 256 ≡ b = omega arith in
-    let q : (b + 256 * le n l) / 256 ≡ le n l = omega arith in
-    (λ j. p j ∷ bytes n (q j)) ∙ ap (λ (k : List ℕ). b ∷ k) (bytes-le n l (omega arith) (a .1))
+    let p : (b + 256 * littleEndian n l) % 256 ≡ b = omega arith in
+    let q : (b + 256 * littleEndian n l) / 256 ≡ littleEndian n l = omega arith in
+    (λ j. p j ∷ lowBytes n (q j)) ∙ ap (λ (k : List ℕ). b ∷ k) (bytes-le n l (omega arith) (a .1))
 
 -- ---- an array
 
@@ -63,22 +63,22 @@ pub record Back {A : Type 0} (w : ℕ) (f : ℕ → A) (g : A → ℕ) (x : A) :
   pub room : g x < 256 ^ w
   pub same : f (g x) ≡ x
 
-pub taken-written : {A : Type 0} (w : ℕ) (f : ℕ → A) (g : A → ℕ) (xs : List A) (r : List ℕ) → All (Back w f g) xs → taken w f (length xs) (written w g xs ++ r) ≡ xs
-unfolding taken written
+pub taken-written : {A : Type 0} (w : ℕ) (f : ℕ → A) (g : A → ℕ) (xs : List A) (r : List ℕ) → All (Back w f g) xs → numbersIn w f (length xs) (written w g xs ++ r) ≡ xs
+unfolding numbersIn written
 taken-written w f g [] r h = refl
 taken-written w f g (x ∷ xs) r h =
-    let e : (bytes w (g x) ++ written w g xs) ++ r ≡ bytes w (g x) ++ (written w g xs ++ r) = append-assoc (bytes w (g x)) (written w g xs) r in
-    ap (λ (l : List ℕ). f (le w l) ∷ taken w f (length xs) (drop w l)) e
-    ∙ (λ j. f (le-bytes w (g x) (written w g xs ++ r) (h .0 .room) j) ∷ taken w f (length xs) (drop-bytes w (g x) (written w g xs ++ r) j))
+    let e : (lowBytes w (g x) ++ written w g xs) ++ r ≡ lowBytes w (g x) ++ (written w g xs ++ r) = append-assoc (lowBytes w (g x)) (written w g xs) r in
+    ap (λ (l : List ℕ). f (littleEndian w l) ∷ numbersIn w f (length xs) (drop w l)) e
+    ∙ (λ j. f (le-bytes w (g x) (written w g xs ++ r) (h .0 .room) j) ∷ numbersIn w f (length xs) (drop-bytes w (g x) (written w g xs ++ r) j))
     ∙ (λ j. h .0 .same j ∷ taken-written w f g xs r (h .1) j)
 
 pub drop-written : {A : Type 0} (w : ℕ) (g : A → ℕ) (xs : List A) (r : List ℕ) → drop (w * length xs) (written w g xs ++ r) ≡ r
 unfolding written
 drop-written w g [] r = ap (λ (n : ℕ). drop n r) (mul-zero w)
 drop-written w g (x ∷ xs) r =
-    ap (λ (l : List ℕ). drop (w * suc (length xs)) l) (append-assoc (bytes w (g x)) (written w g xs) r)
-    ∙ ap (λ (n : ℕ). drop n (bytes w (g x) ++ (written w g xs ++ r))) (mul-suc w (length xs) ∙ add-comm (w * length xs) w)
-    ∙ sym (drop-drop (w * length xs) w (bytes w (g x) ++ (written w g xs ++ r)))
+    ap (λ (l : List ℕ). drop (w * suc (length xs)) l) (append-assoc (lowBytes w (g x)) (written w g xs) r)
+    ∙ ap (λ (n : ℕ). drop n (lowBytes w (g x) ++ (written w g xs ++ r))) (mul-suc w (length xs) ∙ add-comm (w * length xs) w)
+    ∙ sym (drop-drop (w * length xs) w (lowBytes w (g x) ++ (written w g xs ++ r)))
     ∙ ap (drop (w * length xs)) (drop-bytes w (g x) (written w g xs ++ r))
     ∙ drop-written w g xs r
 
@@ -144,7 +144,7 @@ module _ (counts : List ℕ) (times : List ℤ) (freqs : List Float) (z : Sizes 
   after = drop-bytes 4 (length counts) (cs ++ (ts ++ fs))
 
   n : countsIn b ≡ counts
-  n = (λ j. taken 4 (λ k. k) (p j) (after j)) ∙ taken-written 4 (λ k. k) (λ k. k) counts (ts ++ fs) (counts-back counts c)
+  n = (λ j. numbersIn 4 (λ k. k) (p j) (after j)) ∙ taken-written 4 (λ k. k) (λ k. k) counts (ts ++ fs) (counts-back counts c)
 
   s : samplesIn b ≡ length times
   s = ap total n ∙ z .whole
@@ -156,7 +156,7 @@ module _ (counts : List ℕ) (times : List ℤ) (freqs : List Float) (z : Sizes 
   times-at = further (4 * passesIn b) ∙ ap (λ (k : ℕ). drop (4 * k) (cs ++ (ts ++ fs))) p ∙ drop-written 4 (λ k. k) counts (ts ++ fs)
 
   t : timesIn b ≡ times
-  t = (λ j. taken 8 timeOf (s j) (times-at j)) ∙ taken-written 8 timeOf timeBits times fs (times-back times r)
+  t = (λ j. numbersIn 8 timeOf (s j) (times-at j)) ∙ taken-written 8 timeOf timeBits times fs (times-back times r)
 
   freqs-at : drop (4 + 4 * passesIn b + 8 * samplesIn b) b ≡ fs ++ []
   freqs-at =
@@ -166,12 +166,12 @@ module _ (counts : List ℕ) (times : List ℤ) (freqs : List Float) (z : Sizes 
       ∙ sym (append-nil fs)
 
   f : freqsIn b ≡ freqs
-  f = (λ j. taken 8 (ofBits binary64) ((s ∙ sym (z .pairs)) j) (freqs-at j)) ∙ taken-written 8 (ofBits binary64) (toBits binary64) freqs [] (freqs-back freqs v)
+  f = (λ j. numbersIn 8 (ofBits binary64) ((s ∙ sym (z .pairs)) j) (freqs-at j)) ∙ taken-written 8 (ofBits binary64) (toBits binary64) freqs [] (freqs-back freqs v)
 
   size : length b ≡ 4 + 4 * passesIn b + 16 * samplesIn b
   unfolding bytesOf
   size =
-      let l0 = length-append (bytes 4 (length counts)) (cs ++ (ts ++ fs)) in
+      let l0 = length-append (lowBytes 4 (length counts)) (cs ++ (ts ++ fs)) in
       let l1 = length-append cs (ts ++ fs) in
       let l2 = length-append ts fs in
       let k0 = length-bytes 4 (length counts) in
@@ -204,8 +204,8 @@ take-add zero n l = ap (λ (k : ℕ). take k l) (sym (zero-add n))
 take-add (suc m) n [] = take-nil n ∙ sym (take-nil (suc m + n))
 take-add (suc m) n (x ∷ l) = ap (λ (k : List _). x ∷ k) (take-add m n l) ∙ ap (λ (k : ℕ). take k (x ∷ l)) (sym (suc-add m n))
 
-le-room : (n : ℕ) (l : List ℕ) → All Byte l → le n l < 256 ^ n
-unfolding le
+le-room : (n : ℕ) (l : List ℕ) → All Byte l → littleEndian n l < 256 ^ n
+unfolding littleEndian
 le-room zero l a = omega arith
 le-room (suc n) [] a = let p = one-le-pow (suc n) 256 (lit< tt) in omega arith
 le-room (suc n) (b ∷ l) a =
@@ -218,21 +218,21 @@ le-room (suc n) (b ∷ l) a =
 module _ {A : Type 0} (w : ℕ) (f : ℕ → A) (g : A → ℕ) where
   abbrev pub Kept : ℕ → List ℕ → Type 0
   Kept zero l = Unit {0}
-  Kept (suc k) l = (g (f (le w l)) ≡ le w l) × Kept k (drop w l)
+  Kept (suc k) l = (g (f (littleEndian w l)) ≡ littleEndian w l) × Kept k (drop w l)
 
-  pub written-taken : (k : ℕ) (l : List ℕ) → w * k ≤ length l → All Byte l → Kept k l → written w g (taken w f k l) ≡ take (w * k) l
-  unfolding written taken
+  pub written-taken : (k : ℕ) (l : List ℕ) → w * k ≤ length l → All Byte l → Kept k l → written w g (numbersIn w f k l) ≡ take (w * k) l
+  unfolding written numbersIn
   written-taken zero l h a e = ap (λ (n : ℕ). take n l) (sym (mul-zero w))
   written-taken (suc k) l h a e =
       let s = mul-suc w k in
       let d = length-drop w l in
-      (λ j. bytes w (e .0 j) ++ written w g (taken w f k (drop w l)))
+      (λ j. lowBytes w (e .0 j) ++ written w g (numbersIn w f k (drop w l)))
       ∙ (λ j. bytes-le w l (omega arith) a j ++ written-taken k (drop w l) (omega arith) (all-drop w l a) (e .1) j)
       ∙ take-add w (w * k) l
       ∙ ap (λ (n : ℕ). take n l) (sym (s ∙ add-comm (w * k) w))
 
-length-taken : {A : Type 0} (w : ℕ) (f : ℕ → A) (k : ℕ) (l : List ℕ) → length (taken w f k l) ≡ k
-unfolding taken
+length-taken : {A : Type 0} (w : ℕ) (f : ℕ → A) (k : ℕ) (l : List ℕ) → length (numbersIn w f k l) ≡ k
+unfolding numbersIn
 length-taken w f zero l = refl
 length-taken w f (suc k) l = ap suc (length-taken w f k (drop w l))
 
@@ -250,7 +250,7 @@ time-kept u h = go (ltb u 9223372036854775808) refl
 
 times-kept : (k : ℕ) (l : List ℕ) → All Byte l → Kept 8 timeOf timeBits k l
 times-kept zero l a = tt
-times-kept (suc k) l a = (time-kept (le 8 l) (le-room 8 l a), times-kept k (drop 8 l) (all-drop 8 l a))
+times-kept (suc k) l a = (time-kept (littleEndian 8 l) (le-room 8 l a), times-kept k (drop 8 l) (all-drop 8 l a))
 
 -- Bytes that are accepted and hold no other NaN than the one that is stored are stored back as they are.
 module _ (b : List ℕ) (a : All Byte b) (e : sizedRight b ≡ true)
@@ -267,7 +267,7 @@ module _ (b : List ℕ) (a : All Byte b) (e : sizedRight b ≡ true)
       let d4 = length-drop 4 b in
       let dt = length-drop (4 + 4 * p) b in
       let df = length-drop (4 + 4 * p + 8 * s) b in
-      let head : bytes 4 (length (countsIn b)) ≡ take 4 b = ap (bytes 4) (length-taken 4 (λ n. n) p (drop 4 b)) ∙ bytes-le 4 b (omega arith) a in
+      let head : lowBytes 4 (length (countsIn b)) ≡ take 4 b = ap (lowBytes 4) (length-taken 4 (λ n. n) p (drop 4 b)) ∙ bytes-le 4 b (omega arith) a in
       let cs : written 4 (λ n. n) (countsIn b) ≡ take (4 * p) (drop 4 b) = written-taken 4 (λ n. n) (λ n. n) p (drop 4 b) (omega arith) (all-drop 4 b a) (counts-kept p (drop 4 b)) in
       let ts : written 8 timeBits (timesIn b) ≡ take (8 * s) (drop (4 + 4 * p) b) =
       written-taken 8 timeOf timeBits s (drop (4 + 4 * p) b) (omega arith) (all-drop (4 + 4 * p) b a) (times-kept s (drop (4 + 4 * p) b) (all-drop (4 + 4 * p) b a)) in

@@ -14,7 +14,7 @@ use borrow.Author.Tests.{ne-eqb, le-leb, lt-leb, lt-ltb, le-ltb, leb-true, eqb-t
 use Rattle.moment.specs.Sample.{timesInRange}
 use Rattle.moment.proofs.Samples.{and-true}
 use Rattle.pass_set.specs.PassSet.{total, sizesAgree}
-use Rattle.stored.specs.Numbers.{bytes, timeBits, timeOf, taken, written}
+use Rattle.stored.specs.Numbers.{lowBytes, timeBits, timeOf, numbersIn, written}
 use Rattle.stored.specs.Sets.{passesIn, countsIn, samplesIn, timesIn, freqsIn, sizedRight, loadRefusal, loaded, Loads, bytesOf, sizeOf, storeRefusal, stored, Stores}
 use Rattle.stored.specs.declared.Loaded.{Loaded}
 use Rattle.stored.specs.declared.Stored.{Stored}
@@ -63,11 +63,11 @@ pub record Counted (b : List ℕ) (p s : ℕ) : Type 0 where
   pub passes : p ≡ passesIn b
   pub samples : s ≡ samplesIn b
 
-pub counted : (b : List ℕ) {p s : ℕ} → p ≡ passesIn b → s ≡ total (taken 4 (λ v. v) p (drop 4 b)) → Counted b p s
-counted b e f = record { passes = e; samples = f ∙ ap (λ (n : ℕ). total (taken 4 (λ v. v) n (drop 4 b))) e }
+pub counted : (b : List ℕ) {p s : ℕ} → p ≡ passesIn b → s ≡ total (numbersIn 4 (λ v. v) p (drop 4 b)) → Counted b p s
+counted b e f = record { passes = e; samples = f ∙ ap (λ (n : ℕ). total (numbersIn 4 (λ v. v) n (drop 4 b))) e }
 
-pub tested : {b : List ℕ} {p s : ℕ} {r : Bool} → Counted b p s → r ≡ timesInRange (taken 8 timeOf s (drop (4 + 4 * p) b)) → r ≡ timesInRange (timesIn b)
-tested {b = b} k e = e ∙ (λ j. timesInRange (taken 8 timeOf (k .samples j) (drop (4 + 4 * k .passes j) b)))
+pub tested : {b : List ℕ} {p s : ℕ} {r : Bool} → Counted b p s → r ≡ timesInRange (numbersIn 8 timeOf s (drop (4 + 4 * p) b)) → r ≡ timesInRange (timesIn b)
+tested {b = b} k e = e ∙ (λ j. timesInRange (numbersIn 8 timeOf (k .samples j) (drop (4 + 4 * k .passes j) b)))
 
 -- ---- the answer of `load`
 
@@ -129,15 +129,15 @@ module _ (b counts : List ℕ) (times : List ℤ) (freqs : List Float) where
         )
 
     pub load-all : {counts′ : List ℕ} {times′ : List ℤ} {freqs′ : List Float} → p ≤ length counts → s ≤ length times → s ≤ length freqs
-        → counts′ ≡ sets counts 0 (taken 4 (λ v. v) p (drop 4 b)) → times′ ≡ sets times 0 (taken 8 timeOf s (drop (4 + 4 * p) b))
-        → freqs′ ≡ sets freqs 0 (taken 8 (ofBits binary64) s (drop (4 + 4 * p + 8 * s) b))
+        → counts′ ≡ sets counts 0 (numbersIn 4 (λ v. v) p (drop 4 b)) → times′ ≡ sets times 0 (numbersIn 8 timeOf s (drop (4 + 4 * p) b))
+        → freqs′ ≡ sets freqs 0 (numbersIn 8 (ofBits binary64) s (drop (4 + 4 * p + 8 * s) b))
         → Loads b counts counts′ times times′ freqs freqs′ (record { refusal = 0; passes = p; samples = s })
     load-all h i l x y z =
         record {
           says = (λ j. record { refusal = 0; passes = k .passes j; samples = k .samples j }) ∙ sym (given h i l);
-          put-counts = x ∙ (λ j. sets counts 0 (taken 4 (λ v. v) (k .passes j) (drop 4 b)));
-          put-times = y ∙ (λ j. sets times 0 (taken 8 timeOf (k .samples j) (drop (4 + 4 * k .passes j) b)));
-          put-freqs = z ∙ (λ j. sets freqs 0 (taken 8 (ofBits binary64) (k .samples j) (drop (4 + 4 * k .passes j + 8 * k .samples j) b)));
+          put-counts = x ∙ (λ j. sets counts 0 (numbersIn 4 (λ v. v) (k .passes j) (drop 4 b)));
+          put-times = y ∙ (λ j. sets times 0 (numbersIn 8 timeOf (k .samples j) (drop (4 + 4 * k .passes j) b)));
+          put-freqs = z ∙ (λ j. sets freqs 0 (numbersIn 8 (ofBits binary64) (k .samples j) (drop (4 + 4 * k .passes j + 8 * k .samples j) b)));
         }
 
 -- ---- the answer of `store`
@@ -159,7 +159,7 @@ sets-two xs ys l i j e = sym (sets-append xs ys l i ∙ ap (λ (k : ℕ). sets (
 pub length-written : {A : Type 0} (w : ℕ) (g : A → ℕ) (xs : List A) → length (written w g xs) ≡ w * length xs
 unfolding written
 length-written w g [] = sym (mul-zero w)
-length-written w g (x ∷ xs) = length-append (bytes w (g x)) (written w g xs) ∙ (λ j. length-bytes w (g x) j + length-written w g xs j) ∙ add-comm w (w * length xs) ∙ sym (mul-suc w (length xs))
+length-written w g (x ∷ xs) = length-append (lowBytes w (g x)) (written w g xs) ∙ (λ j. length-bytes w (g x) j + length-written w g xs j) ∙ add-comm w (w * length xs) ∙ sym (mul-suc w (length xs))
 
 module _ (counts : List ℕ) (times : List ℤ) (freqs : List Float) (out : List ℕ) where
   pub store-range : {r : Stored} → r ≡ none 4 → timesInRange times ≡ false → Stores counts times freqs out out r
@@ -181,7 +181,7 @@ module _ (counts : List ℕ) (times : List ℤ) (freqs : List Float) (out : List
       given-store h = simp (e, f, le-ltb (length out) (sizeOf counts times) h)
 
       pub store-all : {o₁ o₂ o₃ o₄ : List ℕ} → sizeOf counts times ≤ length out
-          → o₁ ≡ sets out 0 (bytes 4 (length counts))
+          → o₁ ≡ sets out 0 (lowBytes 4 (length counts))
           → o₂ ≡ sets o₁ 4 (written 4 (λ v. v) counts)
           → o₃ ≡ sets o₂ (4 + 4 * length counts) (written 8 timeBits times)
           → o₄ ≡ sets o₃ (4 + 4 * length counts + 8 * length times) (written 8 (toBits binary64) freqs)
@@ -189,7 +189,7 @@ module _ (counts : List ℕ) (times : List ℤ) (freqs : List Float) (out : List
       unfolding bytesOf
       store-all {o₁ = o₁} {o₂ = o₂} h p q r s =
           let n = length counts in
-          let hs = bytes 4 n in
+          let hs = lowBytes 4 n in
           let bs = written 4 (λ v. v) counts in
           let cs = written 8 timeBits times in
           let ds = written 8 (toBits binary64) freqs in

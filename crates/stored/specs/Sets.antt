@@ -13,26 +13,26 @@ use Rattle.refusal.specs.Numbers as refusal
 use Rattle.refusal.specs.Order.{first, _if_}
 use Rattle.moment.specs.Sample.{timesInRange}
 use Rattle.pass_set.specs.PassSet.{total, sizesAgree}
-use Rattle.stored.specs.Numbers.{le, bytes, timeBits, timeOf, taken, written}
+use Rattle.stored.specs.Numbers.{littleEndian, lowBytes, timeBits, timeOf, numbersIn, written}
 use Rattle.stored.specs.declared.Loaded.{Loaded}
 use Rattle.stored.specs.declared.Stored.{Stored}
 
 -- ---- from bytes
 
 abbrev pub passesIn : List ℕ → ℕ
-passesIn b = le 4 b
+passesIn b = littleEndian 4 b
 
 abbrev pub countsIn : List ℕ → List ℕ
-countsIn b = taken 4 (λ n. n) (passesIn b) (drop 4 b)
+countsIn b = numbersIn 4 (λ n. n) (passesIn b) (drop 4 b)
 
 abbrev pub samplesIn : List ℕ → ℕ
 samplesIn b = total (countsIn b)
 
 abbrev pub timesIn : List ℕ → List ℤ
-timesIn b = taken 8 timeOf (samplesIn b) (drop (4 + 4 * passesIn b) b)
+timesIn b = numbersIn 8 timeOf (samplesIn b) (drop (4 + 4 * passesIn b) b)
 
 abbrev pub freqsIn : List ℕ → List Float
-freqsIn b = taken 8 (ofBits binary64) (samplesIn b) (drop (4 + 4 * passesIn b + 8 * samplesIn b) b)
+freqsIn b = numbersIn 8 (ofBits binary64) (samplesIn b) (drop (4 + 4 * passesIn b + 8 * samplesIn b) b)
 
 -- at most 16 passes and 4,096 samples, and as many bytes as they take
 unfoldable pub sizedRight : List ℕ → Bool
@@ -65,7 +65,7 @@ pub record Loads (b counts counts′ : List ℕ) (times times′ : List ℤ) (fr
 
 unfoldable pub bytesOf : List ℕ → List ℤ → List Float → List ℕ
 bytesOf counts times freqs =
-    bytes 4 (length counts) ++ (written 4 (λ n. n) counts ++ (written 8 timeBits times ++ written 8 (toBits binary64) freqs))
+    lowBytes 4 (length counts) ++ (written 4 (λ n. n) counts ++ (written 8 timeBits times ++ written 8 (toBits binary64) freqs))
 
 abbrev pub sizeOf : List ℕ → List ℤ → ℕ
 sizeOf counts times = 4 + 4 * length counts + 16 * length times

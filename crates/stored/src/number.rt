@@ -35,7 +35,7 @@ pub fn double_at(l: &[u8], at: usize) -> u64
 
 pub fn put_word(out: &mut [u8], at: usize, v: u64)
     requires { ⌜ at + 4 ≤ length (now out) ⌝ }
-    ensures { λ _. ⌜ now (out .exit) ≡ sets (now (out .entry)) at (Numbers.bytes 4 v) ⌝ }
+    ensures { λ _. ⌜ now (out .exit) ≡ sets (now (out .entry)) at (Numbers.lowBytes 4 v) ⌝ }
 {
     out[at] = (v % 256) as u8;
     let b = v / 256;
@@ -48,7 +48,7 @@ pub fn put_word(out: &mut [u8], at: usize, v: u64)
 
 pub fn put_double(out: &mut [u8], at: usize, v: u64)
     requires { ⌜ at + 8 ≤ length (now out) ⌝ }
-    ensures { λ _. ⌜ now (out .exit) ≡ sets (now (out .entry)) at (Numbers.bytes 8 v) ⌝ }
+    ensures { λ _. ⌜ now (out .exit) ≡ sets (now (out .entry)) at (Numbers.lowBytes 8 v) ⌝ }
 {
     put_word(out, at, v);
     put_word(out, at + 4, v / 4294967296);

@@ -11,7 +11,7 @@ use Rattle.text.specs.Text.{bytes, code}
 use Rattle.float.specs.Ops.{_⊕_, bits, remEuclidOf, degreesOf, degreesPerRadian}
 use Rattle.float.specs.Trig.{full, pi}
 use Rattle.roots.specs.Root.{sqrtOf}
-use Rattle.decimal.specs.Fixed.{decimal, text, cellAt}
+use Rattle.decimal.specs.Fixed.{nearestUnits, fixedText, cellAt}
 use Rattle.moment.specs.Time.{secondsOf}
 use Rattle.moment.specs.Range.{inRange}
 use Rattle.moment.specs.Calendar.{leap, monthLength, monthsLength, dateOf, ordinalOf}
@@ -20,9 +20,9 @@ use Rattle.moment.specs.declared.calendar.Date.{Date}
 use Rattle.moment.proofs.Days.{from-march, from-january}
 use Rattle.tle.specs.Elements.{fullCircle, printedDegrees, secondsPerDay, meanMotionOf, secondsPerHour, secondsPerMinute, nanosPerSecond, ofNat, dayFraction, epochAt, epochOf}
 use Rattle.solution.specs.Range.{leastRadius, mostRadius}
-use Rattle.tle.specs.Answer.{angleFits, radiusFits, inclinationFits, orbitFits, visible, nameFits, refusalOf}
+use Rattle.tle.specs.Answer.{angleFits, radiusFits, inclinationFits, orbitFits, visible, nameFits, linesRefusal}
 use Rattle.tle.specs.Example.{epoch, orbit, first-line, second-line}
-use Rattle.tle.specs.Lines.{body1, body2, sumOf, checksumOf, closed, line1, line2}
+use Rattle.tle.specs.Lines.{body1, body2, weightSum, checksumOf, closed, line1, line2}
 use Rattle.tle.specs.Printed.{matchesBehind, matches, columns1, columns2}
 use Rattle.tle.specs.declared.elements.Epoch.{Epoch}
 
@@ -44,63 +44,63 @@ epoch-is = epoch-on epoch (record { year = 2026; month = 6; day = 12 }) june-12
 
 -- ---- the lines
 example-day : line1 (record { year = 2026; day = bits 0x4064600000000000 }) ≡ first-line
-unfolding line1 closed body1 text cellAt checksumOf sumOf round ofBits
+unfolding line1 closed body1 fixedText cellAt checksumOf weightSum round ofBits
 example-day = refl
 
 pub example-1 : line1 (epochOf epoch) ≡ first-line
 example-1 = ap line1 epoch-is ∙ example-day
 
 pub example-2 : line2 orbit ≡ second-line
-unfolding line2 closed body2 text cellAt checksumOf sumOf printedDegrees degreesOf degreesPerRadian fullCircle remEuclidOf meanMotionOf secondsPerDay full sqrtOf add mul div rem lt round ofBits
+unfolding line2 closed body2 fixedText cellAt checksumOf weightSum printedDegrees degreesOf degreesPerRadian fullCircle remEuclidOf meanMotionOf secondsPerDay full sqrtOf add mul div rem lt round ofBits
 example-2 = refl
 
 -- ---- the first and the last moments of years: 001.00000000 in 1957, 366.00000000 in 2026 and 367.00000000 in 2056
 abbrev day-text : Float → List ℕ
-day-text v = text (code "0") 8 (decimal 8 v) 12
+day-text v = fixedText (code "0") 8 (nearestUnits 8 v) 12
 
 january-1 : dateOf 306 ≡ record { year = 1957; month = 1; day = 1 }
 january-1 = sym (from-january 306 0 (lit< tt) refl (lit≤ tt))
 
 first-moment : day-text (epochOf (record { seconds = negsuc 410227199; nanos = 0 }) .day) ≡ bytes "001.00000000"
-unfolding text cellAt secondsOf dayFraction ordinalOf leap monthsLength monthLength secondsPerHour secondsPerMinute nanosPerSecond secondsPerDay add mul div round ofInt ofBits
+unfolding fixedText cellAt secondsOf dayFraction ordinalOf leap monthsLength monthLength secondsPerHour secondsPerMinute nanosPerSecond secondsPerDay add mul div round ofInt ofBits
 first-moment = ap (λ (e : Epoch). day-text (e .day)) (epoch-on (record { seconds = negsuc 410227199; nanos = 0 }) (record { year = 1957; month = 1; day = 1 }) january-1)
 
 december-31 : dateOf 25872 ≡ record { year = 2026; month = 12; day = 31 }
 december-31 = sym (from-march 25872 2 (lit< tt) refl (lit< tt))
 
 last-of-2026 : day-text (epochOf (record { seconds = pos 1798761599; nanos = 999999999 }) .day) ≡ bytes "366.00000000"
-unfolding text cellAt secondsOf dayFraction ordinalOf leap monthsLength monthLength secondsPerHour secondsPerMinute nanosPerSecond secondsPerDay add mul div round ofInt ofBits
+unfolding fixedText cellAt secondsOf dayFraction ordinalOf leap monthsLength monthLength secondsPerHour secondsPerMinute nanosPerSecond secondsPerDay add mul div round ofInt ofBits
 last-of-2026 = ap (λ (e : Epoch). day-text (e .day)) (epoch-on (record { seconds = pos 1798761599; nanos = 999999999 }) (record { year = 2026; month = 12; day = 31 }) december-31)
 
 december-31-2056 : dateOf 36830 ≡ record { year = 2056; month = 12; day = 31 }
 december-31-2056 = sym (from-march 36830 0 (lit< tt) refl (lit< tt))
 
 last-moment : day-text (epochOf (record { seconds = pos 2745532799; nanos = 999999999 }) .day) ≡ bytes "367.00000000"
-unfolding text cellAt secondsOf dayFraction ordinalOf leap monthsLength monthLength secondsPerHour secondsPerMinute nanosPerSecond secondsPerDay add mul div round ofInt ofBits
+unfolding fixedText cellAt secondsOf dayFraction ordinalOf leap monthsLength monthLength secondsPerHour secondsPerMinute nanosPerSecond secondsPerDay add mul div round ofInt ofBits
 last-moment = ap (λ (e : Epoch). day-text (e .day)) (epoch-on (record { seconds = pos 2745532799; nanos = 999999999 }) (record { year = 2056; month = 12; day = 31 }) december-31-2056)
 
 -- ---- angles: −0.0 rad prints 0.0000, −1e-20 rad 360.0000, π rad 180.0000; of 0.03125 and 0.09375 degrees the even one
 abbrev angle-text : Float → List ℕ
-angle-text v = text (code " ") 4 (decimal 4 v) 8
+angle-text v = fixedText (code " ") 4 (nearestUnits 4 v) 8
 
 minus-zero : angle-text (printedDegrees (bits 0x8000000000000000)) ≡ bytes "  0.0000"
-unfolding text cellAt printedDegrees degreesOf degreesPerRadian fullCircle remEuclidOf add mul rem lt round ofBits
+unfolding fixedText cellAt printedDegrees degreesOf degreesPerRadian fullCircle remEuclidOf add mul rem lt round ofBits
 minus-zero = refl
 
 just-below : angle-text (printedDegrees (bits 0xbbc79ca10c924223)) ≡ bytes "360.0000"
-unfolding text cellAt printedDegrees degreesOf degreesPerRadian fullCircle remEuclidOf add mul rem lt round ofBits
+unfolding fixedText cellAt printedDegrees degreesOf degreesPerRadian fullCircle remEuclidOf add mul rem lt round ofBits
 just-below = refl
 
 half-turn : angle-text (printedDegrees (bits 0x400921fb54442d18)) ≡ bytes "180.0000"
-unfolding text cellAt printedDegrees degreesOf degreesPerRadian fullCircle remEuclidOf add mul rem lt round ofBits
+unfolding fixedText cellAt printedDegrees degreesOf degreesPerRadian fullCircle remEuclidOf add mul rem lt round ofBits
 half-turn = refl
 
 tie-down : angle-text (bits 0x3fa0000000000000) ≡ bytes "  0.0312"
-unfolding text cellAt round ofBits
+unfolding fixedText cellAt round ofBits
 tie-down = refl
 
 tie-up : angle-text (bits 0x3fb8000000000000) ≡ bytes "  0.0938"
-unfolding text cellAt round ofBits
+unfolding fixedText cellAt round ofBits
 tie-up = refl
 
 -- ---- refusals: names of 0, 24 and 25 bytes, a byte 127, an output one byte short, the end of 2056 passed (before a bad name), a NaN, an infinite angle
@@ -109,12 +109,12 @@ letters zero = []
 letters (suc n) = code "A" ∷ letters n
 
 refusals :
-    refusalOf [] orbit 141 ∷ refusalOf (letters 24) orbit 165 ∷ refusalOf (letters 25) orbit 200 ∷ refusalOf (127 ∷ []) orbit 200 ∷ refusalOf (letters 24) orbit 164
-    ∷ refusalOf (letters 25) (record { a = orbit .a; i = orbit .i; raan0 = orbit .raan0; u0 = orbit .u0; epoch = record { seconds = pos 2745532800; nanos = 0 } }) 0
-    ∷ refusalOf [] (record { a = nan; i = orbit .i; raan0 = orbit .raan0; u0 = orbit .u0; epoch = epoch }) 0
-    ∷ refusalOf [] (record { a = orbit .a; i = orbit .i; raan0 = bits 0x7fac7b1f3cac7433; u0 = orbit .u0; epoch = epoch }) 141 ∷ []
+    linesRefusal [] orbit 141 ∷ linesRefusal (letters 24) orbit 165 ∷ linesRefusal (letters 25) orbit 200 ∷ linesRefusal (127 ∷ []) orbit 200 ∷ linesRefusal (letters 24) orbit 164
+    ∷ linesRefusal (letters 25) (record { a = orbit .a; i = orbit .i; raan0 = orbit .raan0; u0 = orbit .u0; epoch = record { seconds = pos 2745532800; nanos = 0 } }) 0
+    ∷ linesRefusal [] (record { a = nan; i = orbit .i; raan0 = orbit .raan0; u0 = orbit .u0; epoch = epoch }) 0
+    ∷ linesRefusal [] (record { a = orbit .a; i = orbit .i; raan0 = bits 0x7fac7b1f3cac7433; u0 = orbit .u0; epoch = epoch }) 141 ∷ []
     ≡ 0 ∷ 0 ∷ 11 ∷ 11 ∷ 21 ∷ 4 ∷ 11 ∷ 11 ∷ []
-unfolding refusalOf orbitFits radiusFits inclinationFits angleFits leastRadius mostRadius pi nameFits visible inRange secondsOf degreesOf degreesPerRadian mul lt round ofBits
+unfolding linesRefusal orbitFits radiusFits inclinationFits angleFits leastRadius mostRadius pi nameFits visible inRange secondsOf degreesOf degreesPerRadian mul lt round ofBits
 refusals = refl
 
 -- ---- columns: those of the example and one with leading zeros are right; a blank behind a digit, in the last whole place, or behind the point is not

@@ -10,7 +10,7 @@ use lib.Dec.{T, eqb, ltb, lit<, lit≤}
 use lib.ListN.{length, take, drop}
 use lib.Seq.{take-at, drop-append-add}
 use lib.Ieee.{Float}
-use Rattle.decimal.specs.Fixed.{decimal, digitAt, text}
+use Rattle.decimal.specs.Fixed.{nearestUnits, digitAt, fixedText}
 use Rattle.decimal.specs.Read.{isDigit}
 use Rattle.decimal.proofs.Theorems.{half-unit, decimal-le}
 use Rattle.moment.specs.Range.{taken, givenOf}
@@ -22,8 +22,8 @@ use Rattle.tle.specs.Lines.{start1, rest1, start2, middle2, end2, body1,
 use Rattle.refusal.specs.Order as order
 use Rattle.refusal.specs.Order.{_if_}
 use Rattle.refusal.specs.Numbers.{moment-range, unprintable, short-memory}
-use Rattle.tle.specs.Answer.{orbitFits, nameFits, refusalOf, Formats}
-use Rattle.tle.specs.Printed.{Class, only, digit, leading, later, isBlank, admits, matchesBehind, matches, exactly, columns1, columns2, value, numberIn, HalfUnit, Checked, Printed}
+use Rattle.tle.specs.Answer.{orbitFits, nameFits, linesRefusal, Formats}
+use Rattle.tle.specs.Printed.{Class, only, digit, leading, later, isBlank, admits, matchesBehind, matches, exactly, columns1, columns2, readDigits, numberIn, HalfUnit, Checked, Printed}
 use Rattle.solution.specs.declared.SolvedOrbit.{SolvedOrbit}
 use Rattle.tle.specs.declared.Catalog.{Catalog}
 use Rattle.tle.specs.declared.elements.Epoch.{Epoch}
@@ -34,20 +34,20 @@ use Rattle.tle.proofs.Answers.{line1-length, line2-length}
 use Rattle.tle.proofs.Values.{value-text, digit-value, is-digit, fieldClasses, Digital, field-matches, Right, right-cons, right-append, exact}
 
 -- ---- numbers
-carries : (p pad w m : ℕ) (v : Float) (N : ℕ) → UpTo m v → (pad ≡ 32) ⊎ (pad ≡ 48) → p ≤ w → m * 10 ^ p < 10 ^ w → N ≡ value 0 (text pad p (decimal p v) (suc w)) → HalfUnit p v N
+carries : (p pad w m : ℕ) (v : Float) (N : ℕ) → UpTo m v → (pad ≡ 32) ⊎ (pad ≡ 48) → p ≤ w → m * 10 ^ p < 10 ^ w → N ≡ readDigits 0 (fixedText pad p (nearestUnits p v) (suc w)) → HalfUnit p v N
 carries p pad w m v N u q h l e =
-    let d : N ≡ decimal p v = e ∙ value-text pad p (decimal p v) w q h (lt-of-le-of-lt (decimal-le p m v (u .size)) l) in
+    let d : N ≡ nearestUnits p v = e ∙ value-text pad p (nearestUnits p v) w q h (lt-of-le-of-lt (decimal-le p m v (u .size)) l) in
     let f = half-unit p v in
     record { range = u .range; above = rw d (f .0); below = rw d (f .1) }
 
-none : (n : ℕ) → value n [] ≡ n
-unfolding value
+none : (n : ℕ) → readDigits n [] ≡ n
+unfolding readDigits
 none n = refl
 
-checked : (n : ℕ) → n < 10 → value 0 ((n + 48) ∷ []) ≡ n
+checked : (n : ℕ) → n < 10 → readDigits 0 ((n + 48) ∷ []) ≡ n
 checked n h = digit-value 0 n [] h ∙ none (0 * 10 + n) ∙ omega arith
 
-two-digits : (y : ℕ) → value 0 (digitAt y 1 ∷ digitAt y 0 ∷ []) ≡ y % 100
+two-digits : (y : ℕ) → readDigits 0 (digitAt y 1 ∷ digitAt y 0 ∷ []) ≡ y % 100
 two-digits y =
     digit-value 0 (y / 10 ^ 1 % 10) (digitAt y 0 ∷ []) (mod-lt (y / 10 ^ 1) (lit< tt)) ∙ digit-value (0 * 10 + y / 10 ^ 1 % 10) (y / 10 ^ 0 % 10) [] (mod-lt (y / 10 ^ 0) (lit< tt))
     ∙ none ((0 * 10 + y / 10 ^ 1 % 10) * 10 + y / 10 ^ 0 % 10) ∙ omega arith
@@ -72,15 +72,15 @@ later-digital b c t = first-digit (isDigit c) (isBlank b && isBlank c) t
 behind-blank : (b : ℕ) → b ≡ 32 → T (admits later b 32)
 behind-blank b e = rw e tt
 
-angle-columns : (n : ℕ) → Right (fieldClasses leading later 4 7) (text 32 4 n 8)
+angle-columns : (n : ℕ) → Right (fieldClasses leading later 4 7) (fixedText 32 4 n 8)
 unfolding Right
 angle-columns n = field-matches 32 4 n later later-digital behind-blank leading leading-digital (λ b. tt) 7
 
-motion-columns : (n : ℕ) → Right (fieldClasses leading later 8 10) (text 32 8 n 11)
+motion-columns : (n : ℕ) → Right (fieldClasses leading later 8 10) (fixedText 32 8 n 11)
 unfolding Right
 motion-columns n = field-matches 32 8 n later later-digital behind-blank leading leading-digital (λ b. tt) 10
 
-day-columns : (n : ℕ) → Right (fieldClasses digit digit 8 11) (text 48 8 n 12)
+day-columns : (n : ℕ) → Right (fieldClasses digit digit 8 11) (fixedText 48 8 n 12)
 unfolding Right
 day-columns n = field-matches 48 8 n digit digital (λ b e. tt) digit digital (λ b. tt) 11
 
@@ -97,30 +97,30 @@ blank-column ks l q = right-cons (only 32) ks 32 l (λ b. tt) q
 
 -- a line is put together from the right
 line1-columns : (year day cs : ℕ) → cs < 10
-    → T (matches columns1 (start1 ++ (digitAt year 1 ∷ (digitAt year 0 ∷ (text 48 8 day 12 ++ (rest1 ++ ((cs + 48) ∷ [])))))))
+    → T (matches columns1 (start1 ++ (digitAt year 1 ∷ (digitAt year 0 ∷ (fixedText 48 8 day 12 ++ (rest1 ++ ((cs + 48) ∷ [])))))))
 unfolding columns1 Right
 line1-columns year day cs h =
     right-append (exactly start1) _ start1 _ (exact start1)
     (digit-column _ (year / 10 ^ 1 % 10) _ (mod-lt (year / 10 ^ 1) (lit< tt))
     (digit-column _ (year / 10 ^ 0 % 10) _ (mod-lt (year / 10 ^ 0) (lit< tt))
-    (right-append (fieldClasses digit digit 8 11) _ (text 48 8 day 12) _ (day-columns day) (right-append (exactly rest1) _ rest1 _ (exact rest1) (digit-column [] cs [] h ends)))))
+    (right-append (fieldClasses digit digit 8 11) _ (fixedText 48 8 day 12) _ (day-columns day) (right-append (exactly rest1) _ rest1 _ (exact rest1) (digit-column [] cs [] h ends)))))
     0
 
 tail2 : (u n cs : ℕ) → cs < 10
     → Right (exactly middle2 ++ (fieldClasses leading later 4 7 ++ (only 32 ∷ (fieldClasses leading later 8 10 ++ (exactly end2 ++ (digit ∷ []))))))
-    (middle2 ++ (text 32 4 u 8 ++ (32 ∷ (text 32 8 n 11 ++ (end2 ++ ((cs + 48) ∷ []))))))
+    (middle2 ++ (fixedText 32 4 u 8 ++ (32 ∷ (fixedText 32 8 n 11 ++ (end2 ++ ((cs + 48) ∷ []))))))
 tail2 u n cs h =
     right-append (exactly middle2) _ middle2 _ (exact middle2)
-    (right-append (fieldClasses leading later 4 7) _ (text 32 4 u 8) _ (angle-columns u)
-    (blank-column _ _ (right-append (fieldClasses leading later 8 10) _ (text 32 8 n 11) _ (motion-columns n) (right-append (exactly end2) _ end2 _ (exact end2) (digit-column [] cs [] h ends)))))
+    (right-append (fieldClasses leading later 4 7) _ (fixedText 32 4 u 8) _ (angle-columns u)
+    (blank-column _ _ (right-append (fieldClasses leading later 8 10) _ (fixedText 32 8 n 11) _ (motion-columns n) (right-append (exactly end2) _ end2 _ (exact end2) (digit-column [] cs [] h ends)))))
 
 line2-columns : (i r u n cs : ℕ) → cs < 10
-    → T (matches columns2 (start2 ++ (text 32 4 i 8 ++ (32 ∷ (text 32 4 r 8 ++ (middle2 ++ (text 32 4 u 8 ++ (32 ∷ (text 32 8 n 11 ++ (end2 ++ ((cs + 48) ∷ [])))))))))))
+    → T (matches columns2 (start2 ++ (fixedText 32 4 i 8 ++ (32 ∷ (fixedText 32 4 r 8 ++ (middle2 ++ (fixedText 32 4 u 8 ++ (32 ∷ (fixedText 32 8 n 11 ++ (end2 ++ ((cs + 48) ∷ [])))))))))))
 unfolding columns2 Right
 line2-columns i r u n cs h =
     right-append (exactly start2) _ start2 _ (exact start2)
-    (right-append (fieldClasses leading later 4 7) _ (text 32 4 i 8) _ (angle-columns i)
-    (blank-column _ _ (right-append (fieldClasses leading later 4 7) _ (text 32 4 r 8) _ (angle-columns r) (tail2 u n cs h))))
+    (right-append (fieldClasses leading later 4 7) _ (fixedText 32 4 i 8) _ (angle-columns i)
+    (blank-column _ _ (right-append (fieldClasses leading later 4 7) _ (fixedText 32 4 r 8) _ (angle-columns r) (tail2 u n cs h))))
     0
 
 -- ---- each line
@@ -131,24 +131,24 @@ record First (e : Epoch) (l : List ℕ) : Type 0 where
   day : HalfUnit 8 (e .day) (numberIn 21 32 l)
 
 body1-sum : (e : Epoch) → take 68 (line1 e) ≡ body1 (e .year) (e .day)
-unfolding line1 closed body1 text
+unfolding line1 closed body1 fixedText
 body1-sum e = refl
 
-line1-sum : (e : Epoch) → numberIn 69 69 (line1 e) ≡ value 0 ((checksumOf (body1 (e .year) (e .day)) + 48) ∷ [])
-unfolding numberIn line1 closed body1 text
+line1-sum : (e : Epoch) → numberIn 69 69 (line1 e) ≡ readDigits 0 ((checksumOf (body1 (e .year) (e .day)) + 48) ∷ [])
+unfolding numberIn line1 closed body1 fixedText
 line1-sum e = refl
 
-line1-year : (e : Epoch) → numberIn 19 20 (line1 e) ≡ value 0 (digitAt (e .year) 1 ∷ digitAt (e .year) 0 ∷ [])
-unfolding numberIn line1 closed body1 text
+line1-year : (e : Epoch) → numberIn 19 20 (line1 e) ≡ readDigits 0 (digitAt (e .year) 1 ∷ digitAt (e .year) 0 ∷ [])
+unfolding numberIn line1 closed body1 fixedText
 line1-year e = refl
 
-line1-day : (e : Epoch) → numberIn 21 32 (line1 e) ≡ value 0 (text 48 8 (decimal 8 (e .day)) 12)
-unfolding numberIn line1 closed body1 text
+line1-day : (e : Epoch) → numberIn 21 32 (line1 e) ≡ readDigits 0 (fixedText 48 8 (nearestUnits 8 (e .day)) 12)
+unfolding numberIn line1 closed body1 fixedText
 line1-day e = refl
 
 line1-matches : (e : Epoch) → T (matches columns1 (line1 e))
-unfolding line1 closed body1 text
-line1-matches e = line1-columns (e .year) (decimal 8 (e .day)) (checksumOf (body1 (e .year) (e .day))) (checksum-lt (body1 (e .year) (e .day)))
+unfolding line1 closed body1 fixedText
+line1-matches e = line1-columns (e .year) (nearestUnits 8 (e .day)) (checksumOf (body1 (e .year) (e .day))) (checksum-lt (body1 (e .year) (e .day)))
 
 first : (e : Epoch) → UpTo 367 (e .day) → First e (line1 e)
 first e h =
@@ -175,43 +175,43 @@ abbrev bodyOf : SolvedOrbit → List ℕ
 bodyOf o = body2 (printedDegrees (o .i)) (printedDegrees (o .raan0)) (printedDegrees (o .u0)) (meanMotionOf (o .a))
 
 body2-sum : (o : SolvedOrbit) → take 68 (line2 o) ≡ bodyOf o
-unfolding line2 closed body2 text
+unfolding line2 closed body2 fixedText
 body2-sum o = refl
 
-line2-sum : (o : SolvedOrbit) → numberIn 69 69 (line2 o) ≡ value 0 ((checksumOf (bodyOf o) + 48) ∷ [])
-unfolding numberIn line2 closed body2 text
+line2-sum : (o : SolvedOrbit) → numberIn 69 69 (line2 o) ≡ readDigits 0 ((checksumOf (bodyOf o) + 48) ∷ [])
+unfolding numberIn line2 closed body2 fixedText
 line2-sum o = refl
 
-line2-i : (o : SolvedOrbit) → numberIn 9 16 (line2 o) ≡ value 0 (text 32 4 (decimal 4 (printedDegrees (o .i))) 8)
-unfolding numberIn line2 closed body2 text
+line2-i : (o : SolvedOrbit) → numberIn 9 16 (line2 o) ≡ readDigits 0 (fixedText 32 4 (nearestUnits 4 (printedDegrees (o .i))) 8)
+unfolding numberIn line2 closed body2 fixedText
 line2-i o = refl
 
-line2-raan : (o : SolvedOrbit) → numberIn 18 25 (line2 o) ≡ value 0 (text 32 4 (decimal 4 (printedDegrees (o .raan0))) 8)
-unfolding numberIn line2 closed body2 text
+line2-raan : (o : SolvedOrbit) → numberIn 18 25 (line2 o) ≡ readDigits 0 (fixedText 32 4 (nearestUnits 4 (printedDegrees (o .raan0))) 8)
+unfolding numberIn line2 closed body2 fixedText
 line2-raan o = refl
 
-line2-u : (o : SolvedOrbit) → numberIn 44 51 (line2 o) ≡ value 0 (text 32 4 (decimal 4 (printedDegrees (o .u0))) 8)
-unfolding numberIn line2 closed body2 text
+line2-u : (o : SolvedOrbit) → numberIn 44 51 (line2 o) ≡ readDigits 0 (fixedText 32 4 (nearestUnits 4 (printedDegrees (o .u0))) 8)
+unfolding numberIn line2 closed body2 fixedText
 line2-u o = refl
 
-line2-n : (o : SolvedOrbit) → numberIn 53 63 (line2 o) ≡ value 0 (text 32 8 (decimal 8 (meanMotionOf (o .a))) 11)
-unfolding numberIn line2 closed body2 text
+line2-n : (o : SolvedOrbit) → numberIn 53 63 (line2 o) ≡ readDigits 0 (fixedText 32 8 (nearestUnits 8 (meanMotionOf (o .a))) 11)
+unfolding numberIn line2 closed body2 fixedText
 line2-n o = refl
 
 zeros : (o : SolvedOrbit) → (numberIn 27 33 (line2 o) ≡ 0) × (numberIn 35 42 (line2 o) ≡ 0) × (numberIn 64 68 (line2 o) ≡ 0)
-unfolding numberIn line2 closed body2 text value
+unfolding numberIn line2 closed body2 fixedText readDigits
 zeros o = (refl, refl, refl)
 
 line2-is : (o : SolvedOrbit)
-    → start2 ++ (text 32 4 (decimal 4 (printedDegrees (o .i))) 8 ++ (32 ∷ (text 32 4 (decimal 4 (printedDegrees (o .raan0))) 8 ++ (middle2
-    ++ (text 32 4 (decimal 4 (printedDegrees (o .u0))) 8 ++ (32 ∷ (text 32 8 (decimal 8 (meanMotionOf (o .a))) 11 ++ (end2 ++ ((checksumOf (bodyOf o) + 48) ∷ []))))))))) ≡ line2 o
-unfolding line2 closed body2 text
+    → start2 ++ (fixedText 32 4 (nearestUnits 4 (printedDegrees (o .i))) 8 ++ (32 ∷ (fixedText 32 4 (nearestUnits 4 (printedDegrees (o .raan0))) 8 ++ (middle2
+    ++ (fixedText 32 4 (nearestUnits 4 (printedDegrees (o .u0))) 8 ++ (32 ∷ (fixedText 32 8 (nearestUnits 8 (meanMotionOf (o .a))) 11 ++ (end2 ++ ((checksumOf (bodyOf o) + 48) ∷ []))))))))) ≡ line2 o
+unfolding line2 closed body2 fixedText
 line2-is o = refl
 
 line2-matches : (o : SolvedOrbit) → T (matches columns2 (line2 o))
 line2-matches o =
     subst (λ (l : List ℕ). T (matches columns2 l)) (line2-is o)
-    (line2-columns (decimal 4 (printedDegrees (o .i))) (decimal 4 (printedDegrees (o .raan0))) (decimal 4 (printedDegrees (o .u0))) (decimal 8 (meanMotionOf (o .a))) (checksumOf (bodyOf o)) (checksum-lt (bodyOf o)))
+    (line2-columns (nearestUnits 4 (printedDegrees (o .i))) (nearestUnits 4 (printedDegrees (o .raan0))) (nearestUnits 4 (printedDegrees (o .u0))) (nearestUnits 8 (meanMotionOf (o .a))) (checksumOf (bodyOf o)) (checksum-lt (bodyOf o)))
 
 second : (o : SolvedOrbit) → T (orbitFits o) → Second o (line2 o)
 second o h =
@@ -263,8 +263,8 @@ passed true true c d e = (refl, tt)
 passed true false c d e = absurd (omega arith)
 passed false b c d e = absurd (omega arith)
 
-accepted : (name : List ℕ) (o : SolvedOrbit) (room : ℕ) → refusalOf name o room ≡ 0 → (taken (o .epoch) ≡ true) × T (orbitFits o)
-unfolding refusalOf
+accepted : (name : List ℕ) (o : SolvedOrbit) (room : ℕ) → linesRefusal name o room ≡ 0 → (taken (o .epoch) ≡ true) × T (orbitFits o)
+unfolding linesRefusal
 accepted name o room e = passed (taken (o .epoch)) (orbitFits o) (nameFits name) (ltb room (length name + 141)) e
 
 catalog-is : (name rest : List ℕ) (o : SolvedOrbit) → catalogOf name o ++ rest ≡ name ++ (10 ∷ (line1 (epochOf (o .epoch)) ++ (10 ∷ (line2 o ++ (10 ∷ rest)))))
@@ -282,7 +282,7 @@ second-at name k l q h g =
 pub format-printed : (name out out′ : List ℕ) (o : SolvedOrbit) (r : Catalog) → Formats name o out out′ r → r .refusal ≡ 0
     → Printed o (take 69 (drop (length name + 1) out′)) (take 69 (drop (length name + 71) out′))
 format-printed name out out′ o r f z =
-    let e : refusalOf name o (length out) ≡ 0 = sym (f .refusal) ∙ z in
+    let e : linesRefusal name o (length out) ≡ 0 = sym (f .refusal) ∙ z in
     let a = accepted name o (length out) e in
     let rest = drop (length name + 141) out in
     let t : out′ ≡ name ++ (10 ∷ (line1 (epochOf (o .epoch)) ++ (10 ∷ (line2 o ++ (10 ∷ rest))))) =

@@ -10,10 +10,10 @@ use lib.Dec.{T, leb, ltb, eqb, lit<, eqb-refl, ltb→lt, nltb→le}
 use lib.Arith.{mod-mul}
 use lib.Ieee.Fits.{and-i, and-l, and-r}
 use borrow.Author.Tests.{lt-ltb, le-ltb, le-leb, lt-leb, eq-eqb, ne-eqb, leb-false, ltb-false, eqb-false}
-use Rattle.decimal.specs.Fixed.{digitAt, cellAt, text}
+use Rattle.decimal.specs.Fixed.{digitAt, cellAt, fixedText}
 use Rattle.decimal.proofs.Round.{ten-pos}
 use Rattle.decimal.specs.Read.{isDigit}
-use Rattle.tle.specs.Printed.{Class, only, digit, admits, matchesBehind, exactly, value}
+use Rattle.tle.specs.Printed.{Class, only, digit, admits, matchesBehind, exactly, readDigits}
 
 pub lt-or-ge : (a b : ℕ) → (a < b) ⊎ (b ≤ a)
 lt-or-ge a b = go (ltb a b) (ltb→lt a b) (nltb→le a b)
@@ -26,19 +26,19 @@ lt-or-ge a b = go (ltb a b) (ltb→lt a b) (nltb→le a b)
 pub is-digit : (d : ℕ) → d < 10 → T (isDigit (d + 48))
 is-digit d h = simp (le-leb 48 (d + 48) (omega arith), le-leb (d + 48) 57 (omega arith)) tt
 
-pub digit-value : (a d : ℕ) (l : List ℕ) → d < 10 → value a ((d + 48) ∷ l) ≡ value (a * 10 + d) l
-unfolding value
+pub digit-value : (a d : ℕ) (l : List ℕ) → d < 10 → readDigits a ((d + 48) ∷ l) ≡ readDigits (a * 10 + d) l
+unfolding readDigits
 digit-value a d l h =
     let e : d + 48 - 48 ≡ d = omega arith in
     simp (le-leb 48 (d + 48) (omega arith), le-leb (d + 48) 57 (omega arith), e)
 
-skip-point : (a : ℕ) (l : List ℕ) → value a (46 ∷ l) ≡ value a l
-unfolding value
+skip-point : (a : ℕ) (l : List ℕ) → readDigits a (46 ∷ l) ≡ readDigits a l
+unfolding readDigits
 skip-point a l = refl
 
 module _ (pad p n : ℕ) where
-  text-suc : (w : ℕ) → text pad p n (suc w) ≡ cellAt pad p n w ∷ text pad p n w
-  unfolding text
+  text-suc : (w : ℕ) → fixedText pad p n (suc w) ≡ cellAt pad p n w ∷ fixedText pad p n w
+  unfolding fixedText
   text-suc w = refl
 
   -- ---- what stands in a column
@@ -64,16 +64,16 @@ module _ (pad p n : ℕ) where
       let t : a * 10 * P ≡ a * (10 * P) = mul-assoc a 10 P in
       omega (arith, m, s, t)
 
-  places : (a w : ℕ) → w ≤ p → value a (text pad p n w) ≡ a * 10 ^ w + n % 10 ^ w
-  places a zero h = unfold value text in omega arith
+  places : (a w : ℕ) → w ≤ p → readDigits a (fixedText pad p n w) ≡ a * 10 ^ w + n % 10 ^ w
+  places a zero h = unfold readDigits fixedText in omega arith
   places a (suc w) h =
-      ap (value a) (text-suc w) ∙ ap (λ (c : ℕ). value a (c ∷ text pad p n w)) (cell-low w (omega arith))
-      ∙ digit-value a (n / 10 ^ w % 10) (text pad p n w) (mod-lt (n / 10 ^ w) (lit< tt))
+      ap (readDigits a) (text-suc w) ∙ ap (λ (c : ℕ). readDigits a (c ∷ fixedText pad p n w)) (cell-low w (omega arith))
+      ∙ digit-value a (n / 10 ^ w % 10) (fixedText pad p n w) (mod-lt (n / 10 ^ w) (lit< tt))
       ∙ places (a * 10 + n / 10 ^ w % 10) w (omega arith) ∙ next a (10 ^ w) (ten-pos w) ∙ ap (λ (x : ℕ). a * x + n % x) (sym (pow-succ' 10 w))
 
   -- ---- the point
-  at-point : (a : ℕ) → value a (text pad p n (suc p)) ≡ a * 10 ^ p + n % 10 ^ p
-  at-point a = ap (value a) (text-suc p) ∙ ap (λ (c : ℕ). value a (c ∷ text pad p n p)) cell-point ∙ skip-point a (text pad p n p) ∙ places a p (omega arith)
+  at-point : (a : ℕ) → readDigits a (fixedText pad p n (suc p)) ≡ a * 10 ^ p + n % 10 ^ p
+  at-point a = ap (readDigits a) (text-suc p) ∙ ap (λ (c : ℕ). readDigits a (c ∷ fixedText pad p n p)) cell-point ∙ skip-point a (fixedText pad p n p) ∙ places a p (omega arith)
 
   -- ---- before the point
   tenth : (u : ℕ) → n / 10 ^ suc u * 10 + n / 10 ^ u % 10 ≡ n / 10 ^ u
@@ -84,8 +84,8 @@ module _ (pad p n : ℕ) where
   abbrev pub Pads : Type 0
   Pads = (pad ≡ 32) ⊎ (pad ≡ 48)
 
-  pad-value : (l : List ℕ) → Pads → value 0 (pad ∷ l) ≡ value 0 l
-  unfolding value
+  pad-value : (l : List ℕ) → Pads → readDigits 0 (pad ∷ l) ≡ readDigits 0 l
+  unfolding readDigits
   pad-value l (inl e) = rw e
   pad-value l (inr e) = rw e
 
@@ -96,28 +96,28 @@ module _ (pad p n : ℕ) where
       ten-le u = let e : 10 ^ suc u ≡ 10 ^ u * 10 = pow-suc 10 u in omega (arith, e)
 
   -- one more column on the left, by the test of whether it holds a digit
-  column : (u : ℕ) (b c : Bool) → eqb u p ≡ b → leb (10 ^ u) n ≡ c → Pads → value (n / 10 ^ u) (text pad p n (suc u)) ≡ n
-      → value (n / 10 ^ suc u) (cond (b || c) (digitAt n u) pad ∷ text pad p n (suc u)) ≡ n
-  column u true c e f q h = digit-value (n / 10 ^ suc u) (n / 10 ^ u % 10) (text pad p n (suc u)) (mod-lt (n / 10 ^ u) (lit< tt)) ∙ ap (λ (x : ℕ). value x (text pad p n (suc u))) (tenth u) ∙ h
-  column u false true e f q h = digit-value (n / 10 ^ suc u) (n / 10 ^ u % 10) (text pad p n (suc u)) (mod-lt (n / 10 ^ u) (lit< tt)) ∙ ap (λ (x : ℕ). value x (text pad p n (suc u))) (tenth u) ∙ h
+  column : (u : ℕ) (b c : Bool) → eqb u p ≡ b → leb (10 ^ u) n ≡ c → Pads → readDigits (n / 10 ^ u) (fixedText pad p n (suc u)) ≡ n
+      → readDigits (n / 10 ^ suc u) (cond (b || c) (digitAt n u) pad ∷ fixedText pad p n (suc u)) ≡ n
+  column u true c e f q h = digit-value (n / 10 ^ suc u) (n / 10 ^ u % 10) (fixedText pad p n (suc u)) (mod-lt (n / 10 ^ u) (lit< tt)) ∙ ap (λ (x : ℕ). readDigits x (fixedText pad p n (suc u))) (tenth u) ∙ h
+  column u false true e f q h = digit-value (n / 10 ^ suc u) (n / 10 ^ u % 10) (fixedText pad p n (suc u)) (mod-lt (n / 10 ^ u) (lit< tt)) ∙ ap (λ (x : ℕ). readDigits x (fixedText pad p n (suc u))) (tenth u) ∙ h
   column u false false e f q h =
       let z = low-zero u (leb-false (10 ^ u) n f) in
-      ap (λ (x : ℕ). value x (pad ∷ text pad p n (suc u))) (z .1) ∙ pad-value (text pad p n (suc u)) q ∙ ap (λ (x : ℕ). value x (text pad p n (suc u))) (sym (z .0)) ∙ h
+      ap (λ (x : ℕ). readDigits x (pad ∷ fixedText pad p n (suc u))) (z .1) ∙ pad-value (fixedText pad p n (suc u)) q ∙ ap (λ (x : ℕ). readDigits x (fixedText pad p n (suc u))) (sym (z .0)) ∙ h
 
-  at-once : (w : ℕ) → w ≡ p → value (n / 10 ^ w) (text pad p n (suc w)) ≡ n
-  at-once w e = ap (λ (x : ℕ). value (n / 10 ^ x) (text pad p n (suc x))) e ∙ at-point (n / 10 ^ p) ∙ div-add-mod' n (10 ^ p)
+  at-once : (w : ℕ) → w ≡ p → readDigits (n / 10 ^ w) (fixedText pad p n (suc w)) ≡ n
+  at-once w e = ap (λ (x : ℕ). readDigits (n / 10 ^ x) (fixedText pad p n (suc x))) e ∙ at-point (n / 10 ^ p) ∙ div-add-mod' n (10 ^ p)
 
-  further : (u : ℕ) → Pads → p < suc u → value (n / 10 ^ u) (text pad p n (suc u)) ≡ n → value (n / 10 ^ suc u) (text pad p n (suc (suc u))) ≡ n
+  further : (u : ℕ) → Pads → p < suc u → readDigits (n / 10 ^ u) (fixedText pad p n (suc u)) ≡ n → readDigits (n / 10 ^ suc u) (fixedText pad p n (suc (suc u))) ≡ n
   further u q k h =
-      ap (value (n / 10 ^ suc u)) (text-suc (suc u)) ∙ ap (λ (c : ℕ). value (n / 10 ^ suc u) (c ∷ text pad p n (suc u))) (cell-left u k)
+      ap (readDigits (n / 10 ^ suc u)) (text-suc (suc u)) ∙ ap (λ (c : ℕ). readDigits (n / 10 ^ suc u) (c ∷ fixedText pad p n (suc u))) (cell-left u k)
       ∙ column u (eqb u p) (leb (10 ^ u) n) refl refl q h
 
-  left : (w : ℕ) → Pads → p ≤ w → value (n / 10 ^ w) (text pad p n (suc w)) ≡ n
+  left : (w : ℕ) → Pads → p ≤ w → readDigits (n / 10 ^ w) (fixedText pad p n (suc w)) ≡ n
   left zero q h = at-once 0 (omega arith)
   left (suc u) q h = elim (lt-or-ge p (suc u)) [ inl k ↦ further u q k (left u q (omega arith)) | inr k ↦ at-once (suc u) (omega arith) ]
 
-  pub value-text : (w : ℕ) → Pads → p ≤ w → n < 10 ^ w → value 0 (text pad p n (suc w)) ≡ n
-  value-text w q h l = ap (λ (x : ℕ). value x (text pad p n (suc w))) (sym (div-eq-of-lt l)) ∙ left w q h
+  pub value-text : (w : ℕ) → Pads → p ≤ w → n < 10 ^ w → readDigits 0 (fixedText pad p n (suc w)) ≡ n
+  value-text w q h l = ap (λ (x : ℕ). readDigits x (fixedText pad p n (suc w))) (sym (div-eq-of-lt l)) ∙ left w q h
 
 -- ---- the classes of a text's columns: left of the digit before the point the class k, in the first column k₀
 abbrev pub cellClass : Class → ℕ → ℕ → Class
@@ -172,17 +172,17 @@ module _ (pad p n : ℕ) where
   follows w u e h l = ap (cellAt pad p n) e ∙ still u h l
 
   module _ (k : Class) (any : Digital k) (own : (b : ℕ) → b ≡ pad → T (admits k b pad)) where
-    later-matches : (w b : ℕ) → Padded w b → T (matchesBehind b (laterClasses k p w) (text pad p n w))
-    unfolding matchesBehind text
+    later-matches : (w b : ℕ) → Padded w b → T (matchesBehind b (laterClasses k p w) (fixedText pad p n w))
+    unfolding matchesBehind fixedText
     later-matches zero b f = tt
     later-matches (suc w) b f =
-        and-i (admits (cellClass k p w) b (cellAt pad p n w)) (matchesBehind (cellAt pad p n w) (laterClasses k p w) (text pad p n w))
+        and-i (admits (cellClass k p w) b (cellAt pad p n w)) (matchesBehind (cellAt pad p n w) (laterClasses k p w) (fixedText pad p n w))
         (column-admits k b w any (λ h l. own b (f w refl h l))) (later-matches w (cellAt pad p n w) (follows w))
 
-    pub field-matches : (k₀ : Class) → Digital k₀ → ((b : ℕ) → T (admits k₀ b pad)) → (w b : ℕ) → T (matchesBehind b (fieldClasses k₀ k p w) (text pad p n (suc w)))
-    unfolding matchesBehind text
+    pub field-matches : (k₀ : Class) → Digital k₀ → ((b : ℕ) → T (admits k₀ b pad)) → (w b : ℕ) → T (matchesBehind b (fieldClasses k₀ k p w) (fixedText pad p n (suc w)))
+    unfolding matchesBehind fixedText
     field-matches k₀ any₀ own₀ w b =
-        and-i (admits (cellClass k₀ p w) b (cellAt pad p n w)) (matchesBehind (cellAt pad p n w) (laterClasses k p w) (text pad p n w))
+        and-i (admits (cellClass k₀ p w) b (cellAt pad p n w)) (matchesBehind (cellAt pad p n w) (laterClasses k p w) (fixedText pad p n w))
         (column-admits k₀ b w any₀ (λ h l. own₀ b)) (later-matches w (cellAt pad p n w) (follows w))
 
 -- ---- a list whose columns are right behind any byte

@@ -49,8 +49,8 @@ nameFits l = leb (length l) 24 && visible l
 -- ---- the call
 
 -- with so many bytes lent for the text
-unfoldable pub refusalOf : List ℕ → SolvedOrbit → ℕ → ℕ
-refusalOf name o room = first (
+unfoldable pub linesRefusal : List ℕ → SolvedOrbit → ℕ → ℕ
+linesRefusal name o room = first (
     (moment-range if not (taken (o .epoch)))
     ∷ (unprintable if not (orbitFits o && nameFits name))
     ∷ (short-memory if ltb room (length name + 141))
@@ -58,6 +58,6 @@ refusalOf name o room = first (
 
 -- the text's bytes come first, and the places past them stay; a refusal writes nothing
 pub record Formats (name : List ℕ) (o : SolvedOrbit) (out out′ : List ℕ) (r : Catalog) : Type 0 where
-  pub refusal : r .refusal ≡ refusalOf name o (length out)
-  pub written : r .length ≡ cond (eqb (refusalOf name o (length out)) 0) (length name + 141) 0
-  pub text : out′ ≡ cond (eqb (refusalOf name o (length out)) 0) (catalogOf name o ++ drop (length name + 141) out) out
+  pub refusal : r .refusal ≡ linesRefusal name o (length out)
+  pub written : r .length ≡ cond (eqb (linesRefusal name o (length out)) 0) (length name + 141) 0
+  pub text : out′ ≡ cond (eqb (linesRefusal name o (length out)) 0) (catalogOf name o ++ drop (length name + 141) out) out

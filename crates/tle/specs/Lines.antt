@@ -5,7 +5,7 @@ use mathlib.Core.List.{List, [], _∷_, _++_}
 use lib.Dec.{leb, eqb}
 use lib.Ieee.{Float}
 use Rattle.text.specs.Text.{bytes, code}
-use Rattle.decimal.specs.Fixed.{decimal, digitAt, text}
+use Rattle.decimal.specs.Fixed.{nearestUnits, digitAt, fixedText}
 use Rattle.tle.specs.Elements.{printedDegrees, meanMotionOf, epochOf}
 use Rattle.solution.specs.declared.SolvedOrbit.{SolvedOrbit}
 use Rattle.tle.specs.declared.elements.Epoch.{Epoch}
@@ -33,24 +33,24 @@ end2 = bytes "00000"
 -- Line 1 without its checksum: the year's last two digits in columns 19 and 20, the day of the year with 8 places in 21 to 32,
 -- zeros on its left.
 unfoldable pub body1 : ℕ → Float → List ℕ
-body1 year day = start1 ++ digitAt year 1 ∷ digitAt year 0 ∷ text (code "0") 8 (decimal 8 day) 12 ++ rest1
+body1 year day = start1 ++ digitAt year 1 ∷ digitAt year 0 ∷ fixedText (code "0") 8 (nearestUnits 8 day) 12 ++ rest1
 
 -- Line 2 without its checksum: inclination in columns 9 to 16, node in 18 to 25, mean anomaly in 44 to 51, each with 4 places,
 -- and mean motion with 8 in 53 to 63, blanks on their left.
 unfoldable pub body2 : Float → Float → Float → Float → List ℕ
 body2 i raan u n =
-    start2 ++ text (code " ") 4 (decimal 4 i) 8 ++ code " " ∷ text (code " ") 4 (decimal 4 raan) 8 ++ middle2 ++ text (code " ") 4 (decimal 4 u) 8 ++ code " " ∷ text (code " ") 8 (decimal 8 n) 11 ++ end2
+    start2 ++ fixedText (code " ") 4 (nearestUnits 4 i) 8 ++ code " " ∷ fixedText (code " ") 4 (nearestUnits 4 raan) 8 ++ middle2 ++ fixedText (code " ") 4 (nearestUnits 4 u) 8 ++ code " " ∷ fixedText (code " ") 8 (nearestUnits 8 n) 11 ++ end2
 
 -- what a byte adds to the checksum: a digit its value, a minus one
 abbrev pub weightOf : ℕ → ℕ
 weightOf c = cond (leb (code "0") c && leb c (code "9")) (c - code "0") (cond (eqb c (code "-")) 1 0)
 
-unfoldable pub sumOf : List ℕ → ℕ
-sumOf [] = 0
-sumOf (c ∷ l) = weightOf c + sumOf l
+unfoldable pub weightSum : List ℕ → ℕ
+weightSum [] = 0
+weightSum (c ∷ l) = weightOf c + weightSum l
 
 unfoldable pub checksumOf : List ℕ → ℕ
-checksumOf l = sumOf l % 10
+checksumOf l = weightSum l % 10
 
 -- a line with its checksum in column 69
 unfoldable pub closed : List ℕ → List ℕ

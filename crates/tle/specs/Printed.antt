@@ -74,12 +74,12 @@ columns2 =
     exactly start2 ++ angleColumns ++ blank ++ angleColumns ++ exactly middle2 ++ angleColumns ++ blank ++ motionColumns ++ exactly end2 ++ digits 1
 
 -- ---- the number in columns a to b, its point and blanks left out
-unfoldable pub value : ℕ → List ℕ → ℕ
-value n [] = n
-value n (c ∷ l) = cond (isDigit c) (value (n * 10 + (c - code "0")) l) (value n l)
+unfoldable pub readDigits : ℕ → List ℕ → ℕ
+readDigits n [] = n
+readDigits n (c ∷ l) = cond (isDigit c) (readDigits (n * 10 + (c - code "0")) l) (readDigits n l)
 
 unfoldable pub numberIn : ℕ → ℕ → List ℕ → ℕ
-numberIn a b l = value 0 (take (b + 1 - a) (drop (a - 1) l))
+numberIn a b l = readDigits 0 (take (b + 1 - a) (drop (a - 1) l))
 
 -- N is within half a unit of v × 10 ^ p, for a v that is not below zero: v is num v / den v, and both sides are multiplied by 2 and den v
 pub record HalfUnit (p : ℕ) (v : Float) (N : ℕ) : Type 0 where

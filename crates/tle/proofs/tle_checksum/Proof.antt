@@ -7,7 +7,7 @@ use native.Mathlib.Omega.{arith}
 use lib.ListN.{length, getD, take, drop, length-take}
 use lib.Seq.{drop-cons, drop-length, getD-take}
 use borrow.Author.Needs.{needs}
-use Rattle.tle.specs.Lines.{weightOf, sumOf, checksumOf}
+use Rattle.tle.specs.Lines.{weightOf, weightSum, checksumOf}
 use Rattle.tle.proofs.tle_checksum.Statement.{statement}
 use Rattle.tle.proofs.tle_checksum.Tie as tie
 
@@ -17,7 +17,7 @@ record Inv (line : List ℕ) (end sum i : ℕ) : Type 0 where
   room : end ≤ length line
   turns : i ≤ end
   low : sum ≤ 9 * i
-  is : sum + sumOf (drop i (take 68 line)) ≡ sumOf (take 68 line)
+  is : sum + weightSum (drop i (take 68 line)) ≡ weightSum (take 68 line)
 
 abbrev Inv-loop : tie.InvT-loop
 Inv-loop line end sum₀ i₀ sum i = Inv line end sum i
@@ -25,11 +25,11 @@ Inv-loop line end sum₀ i₀ sum i = Inv line end sum i
 abbrev μ-loop : tie.MeasureT-loop
 μ-loop line end sum₀ i₀ sum i = end - i
 
-step : (l : List ℕ) (i : ℕ) → i < length (take 68 l) → i < 68 → sumOf (drop i (take 68 l)) ≡ weightOf (getD l i 0) + sumOf (drop (i + 1) (take 68 l))
-unfolding sumOf
+step : (l : List ℕ) (i : ℕ) → i < length (take 68 l) → i < 68 → weightSum (drop i (take 68 l)) ≡ weightOf (getD l i 0) + weightSum (drop (i + 1) (take 68 l))
+unfolding weightSum
 step l i h k =
     let f : i + 1 ≡ suc i = omega arith in
-    ap sumOf (drop-cons (take 68 l) i 0 h) ∙ rw (getD-take 68 l i 0 k, f)
+    ap weightSum (drop-cons (take 68 l) i 0 h) ∙ rw (getD-take 68 l i 0 k, f)
 
 at-most-68-requires : tie.Need-at-most-68-requires Inv-loop μ-loop
 at-most-68-requires c κs = search needs
@@ -76,9 +76,9 @@ loop-again c =
       is = omega (arith, s, l .inv .is, c .weight .ensures .0);
     }
 
-end : (l : List ℕ) (s i : ℕ) → i ≤ length l → length l ≤ i → s + sumOf (drop i l) ≡ sumOf l → s ≡ sumOf l
+end : (l : List ℕ) (s i : ℕ) → i ≤ length l → length l ≤ i → s + weightSum (drop i l) ≡ weightSum l → s ≡ weightSum l
 end l s i h k e =
-    let z : sumOf (drop i l) ≡ 0 = ap (λ (n : ℕ). sumOf (drop n l)) (le-antisymm h k) ∙ ap sumOf (drop-length l) ∙ (unfold sumOf in refl) in
+    let z : weightSum (drop i l) ≡ 0 = ap (λ (n : ℕ). weightSum (drop n l)) (le-antisymm h k) ∙ ap weightSum (drop-length l) ∙ (unfold weightSum in refl) in
     omega (arith, z, e)
 
 returns : tie.Need-returns Inv-loop μ-loop

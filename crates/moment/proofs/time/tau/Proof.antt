@@ -2,7 +2,7 @@ use mathlib.Core.Path.{sym, _∙_}
 use borrow.Author.Tests.{leb-true, leb-false}
 use native.Mathlib.Nat.{le-of-lt}
 use borrow.Author.Needs.{needs}
-use Rattle.moment.specs.Time.{tauOf, unitsOf, million-bits}
+use Rattle.moment.specs.Time.{tauOf, unitsBetween, million-bits}
 use Rattle.moment.proofs.time.tau.Statement.{statement}
 use Rattle.moment.proofs.time.tau.Tie as tie
 
@@ -22,11 +22,11 @@ back-requires : tie.Need-back-requires
 back-requires c κs = search needs
 
 returns : tie.Need-returns
-unfolding tauOf unitsOf
+unfolding tauOf unitsBetween
 returns c = simp (million-bits, c .on .ensures, c .before .micros .ensures, ← c .before .before .before .no-later .ensures, c .before .before .if1 .taken)
 
 returns-2 : tie.Need-returns-2
-unfolding tauOf unitsOf
+unfolding tauOf unitsBetween
 returns-2 c = simp (million-bits, c .back .ensures, c .before .micros2 .ensures, ← c .before .before .before .no-later .ensures, c .before .before .if1 .left)
 
 pub tau-spec : {M : Type 1} → statement M

@@ -2,7 +2,7 @@ use mathlib.Core.Path.{sym, _∙_}
 use borrow.Author.Tests.{leb-true, leb-false}
 use native.Mathlib.Nat.{le-of-lt}
 use borrow.Author.Needs.{needs}
-use Rattle.moment.specs.Time.{tauMillisOf, unitsOf, thousand-bits}
+use Rattle.moment.specs.Time.{tauMillisOf, unitsBetween, thousand-bits}
 use Rattle.moment.proofs.time.tau_millis.Statement.{statement}
 use Rattle.moment.proofs.time.tau_millis.Tie as tie
 
@@ -22,11 +22,11 @@ back-requires : tie.Need-back-requires
 back-requires c κs = search needs
 
 returns : tie.Need-returns
-unfolding tauMillisOf unitsOf
+unfolding tauMillisOf unitsBetween
 returns c = simp (thousand-bits, c .on .ensures, c .before .millis .ensures, ← c .before .before .before .no-later .ensures, c .before .before .if1 .taken)
 
 returns-2 : tie.Need-returns-2
-unfolding tauMillisOf unitsOf
+unfolding tauMillisOf unitsBetween
 returns-2 c = simp (thousand-bits, c .back .ensures, c .before .millis2 .ensures, ← c .before .before .before .no-later .ensures, c .before .before .if1 .left)
 
 pub tau-millis-spec : {M : Type 1} → statement M

@@ -37,7 +37,7 @@ unfolding Spec.lineOf
 returns-3 c =
     let t = c .before .before .trim .ensures in
     c .trimmed .ensures
-    ∙ (λ j. Spec.text (t .begins j) (t .is j))
+    ∙ (λ j. Spec.trimmedLine (t .begins j) (t .is j))
     ∙ simp (sym (c .before .before .before .before .before .ascii .ensures) ∙ not-false _ (c .before .before .before .before .if1 .left), le-ltb _ _ (c .before .before .before .if2 .left))
 
 pub read-line-spec : {M : Type 1} → statement M

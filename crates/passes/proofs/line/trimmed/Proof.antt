@@ -9,7 +9,7 @@ use Rattle.passes.proofs.line.trimmed.Statement.{statement}
 use Rattle.passes.proofs.line.trimmed.Tie as tie
 
 returns : tie.Need-returns
-unfolding Spec.text
+unfolding Spec.trimmedLine
 returns c = simp (eq-eqb _ _ (c .if1 .taken))
 
 shared-slice-read-if2 : tie.Need-shared-slice-read-if2
@@ -31,7 +31,7 @@ header-requires : tie.Need-header-requires
 header-requires c κs = search needs
 
 returns-2 : tie.Need-returns-2
-unfolding Spec.text
+unfolding Spec.trimmedLine
 returns-2 c =
     let a = c .before .before .before .before .before .before .args in
     c .header .ensures ∙ ap (Spec.header (a .s + 1)) (rest (a .t .now) 1) ∙ simp (ne-eqb _ _ (c .before .before .before .before .if1 .left), eq-eqb _ _ (c .before .before .if2 .taken))
@@ -40,7 +40,7 @@ sample-requires : tie.Need-sample-requires
 sample-requires c κs = search needs
 
 returns-3 : tie.Need-returns-3
-unfolding Spec.text
+unfolding Spec.trimmedLine
 returns-3 c = simp (ne-eqb _ _ (c .before .before .before .if1 .left), ne-eqb _ _ (c .before .if2 .left), c .sample .ensures)
 
 pub trimmed-spec : {M : Type 1} → statement M

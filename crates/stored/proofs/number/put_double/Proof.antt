@@ -26,7 +26,7 @@ returns c =
     let f = c .before .before .before .before .before .before in
     let a = f .before .before .before .args in
     c .before .before .put-word2 .ensures
-    ∙ ap (λ (l : List ℕ). sets l (a .at + 4) (Numbers.bytes 4 (a .v / 4294967296))) (f .put-word .ensures)
+    ∙ ap (λ (l : List ℕ). sets l (a .at + 4) (Numbers.lowBytes 4 (a .v / 4294967296))) (f .put-word .ensures)
     ∙ put-8 (a .out .now) (a .at) (a .v)
 
 pub put-double-spec : {M : Type 1} → statement M

@@ -45,7 +45,7 @@ same-length : tie.Need-same-length
 same-length c = search needs
 
 returns : tie.Need-returns
-unfolding Numbers.bytes
+unfolding Numbers.lowBytes
 returns c = let v = c .args .v in put-4 (c .args .out .now) (c .args .at) (v % 256) (v / 256 % 256) (v / 256 / 256 % 256) (v / 256 / 256 / 256 % 256)
 
 pub put-word-spec : {M : Type 1} → statement M
