@@ -9,6 +9,7 @@ use Rattle.float.specs.Constant.{decimal}
 use Rattle.float.specs.Ops.{_⊕_, _⊖_, _⊗_, _⊘_, floorOf}
 use Rattle.refusal.specs.Numbers as refusal
 use Rattle.refusal.specs.Order.{first, _if_}
+use Rattle.moment.specs.Origin.{perDay, march1956}
 use Rattle.moment.specs.Time.{secondsOf}
 use Rattle.moment.specs.Range.{taken}
 use Rattle.moment.specs.Calendar.{dateOf}
@@ -41,9 +42,9 @@ jdOf d part =
     cond (leb (d .month) 2) (julianOf (num (d .year) ⊖ decimal 1 0) (num (d .month) ⊕ decimal 12 0) (num (d .day) ⊕ part))
     (julianOf (num (d .year)) (num (d .month)) (num (d .day) ⊕ part))
 
--- of the moment secs − 2^44 seconds after 1970 and so many nanoseconds; 1956-03-01 is 17,591,749,378,816
+-- of the moment secs − 2^44 seconds after 1970 and so many nanoseconds
 unfoldable pub jdAt : ℕ → ℕ → Float
-jdAt secs nanos = let s = secs - 17591749378816 in jdOf (dateOf (s / 86400)) (dayFraction (s % 86400) nanos)
+jdAt secs nanos = let s = secs - march1956 in jdOf (dateOf (s / perDay)) (dayFraction (s % perDay) nanos)
 
 -- the answer with this refusal number, 0 for none, and this value
 abbrev pub answer : ℕ → Float → JulianDate

@@ -4,6 +4,7 @@ ghost use Prim.Native.Nat.{_<_, _≤_};
 ghost use Rattle.frame.specs.Julian.{julianOf, dayFraction, jdOf, jdAt, datetimeToJdOf};
 ghost use Rattle.frame.specs.Rotation.{gmstOf, thetaOf, rotatedOf, ecefOf};
 ghost use Rattle.float.specs.Trig.{sinOf, cosOf};
+ghost use Rattle.moment.specs.Origin.{march1956, march2096};
 use float::trig::SinCos;
 use moment::Given;
 use moment::Instant;
@@ -67,10 +68,10 @@ fn day_part(secs: u32, nanos: u32) -> f64
 
 // The inner form, for moments from 1956-03-01 to 2096-02-29: callers pass moments that were taken, or near those.
 pub fn jd_at(t: Instant) -> f64
-    requires { ⌜ (17591749378816 ≤ t .secs) × (t .secs < 17596167442816) ⌝ }
+    requires { ⌜ (march1956 ≤ t .secs) × (t .secs < march2096) ⌝ }
     ensures { λ r. ⌜ r ≡ jdAt (t .secs) (t .nanos) ⌝ }
 {
-    let s = t.secs - 17591749378816;
+    let s = t.secs - moment::MARCH_1956;
     jd(
         moment::calendar::date_of(s / 86400),
         day_part((s % 86400) as u32, t.nanos),

@@ -8,4 +8,5 @@ pub mod Lengths
 pub mod Numbers
 pub mod Samples
 pub mod Shifts
+pub mod Origins
 pub mod Examples

@@ -6,6 +6,7 @@ use native.Mathlib.Omega.{arith}
 use lib.IntN.{ℤ}
 use lib.Dec.{leb, ltb}
 use borrow.Author.Tests.{lt-leb, le-leb, lt-ltb, le-ltb, leb-true, ltb-true}
+use Rattle.moment.specs.Origin.{start1957, start2057}
 use Rattle.moment.specs.Time.{secondsOf}
 use Rattle.moment.specs.Range.{inRange, givenOf, Within}
 use Rattle.moment.specs.declared.Instant.{Instant}
@@ -13,31 +14,31 @@ use Rattle.moment.specs.declared.Given.{Given}
 use Rattle.moment.specs.declared.Given.the-variants.{At, Outside}
 
 module _ (s : ℤ) (n k : ℕ) (e : k ≡ secondsOf s) where
-  pub early : k < 17591775817216 → Outside ≡ givenOf s n
+  pub early : k < start1957 → Outside ≡ givenOf s n
   unfolding givenOf
-  early h = simp (lt-leb 17591775817216 (secondsOf s) (subst (λ (x : ℕ). x < 17591775817216) e h))
+  early h = simp (lt-leb start1957 (secondsOf s) (subst (λ (x : ℕ). x < start1957) e h))
 
-  pub late : 17591775817216 ≤ k → 17594931577216 ≤ k → Outside ≡ givenOf s n
+  pub late : start1957 ≤ k → start2057 ≤ k → Outside ≡ givenOf s n
   unfolding givenOf
   late h l = simp (
-    le-leb 17591775817216 (secondsOf s) (subst (λ (x : ℕ). 17591775817216 ≤ x) e h),
-    le-ltb (secondsOf s) 17594931577216 (subst (λ (x : ℕ). 17594931577216 ≤ x) e l),
+    le-leb start1957 (secondsOf s) (subst (λ (x : ℕ). start1957 ≤ x) e h),
+    le-ltb (secondsOf s) start2057 (subst (λ (x : ℕ). start2057 ≤ x) e l),
   )
 
-  pub long : 17591775817216 ≤ k → k < 17594931577216 → 1000000000 ≤ n → Outside ≡ givenOf s n
+  pub long : start1957 ≤ k → k < start2057 → 1000000000 ≤ n → Outside ≡ givenOf s n
   unfolding givenOf
   long h l m = simp (
-    le-leb 17591775817216 (secondsOf s) (subst (λ (x : ℕ). 17591775817216 ≤ x) e h),
-    lt-ltb (secondsOf s) 17594931577216 (subst (λ (x : ℕ). x < 17594931577216) e l),
+    le-leb start1957 (secondsOf s) (subst (λ (x : ℕ). start1957 ≤ x) e h),
+    lt-ltb (secondsOf s) start2057 (subst (λ (x : ℕ). x < start2057) e l),
     le-ltb n 1000000000 m,
   )
 
-  pub within : 17591775817216 ≤ k → k < 17594931577216 → n < 1000000000 → At (record { secs = k; nanos = n }) ≡ givenOf s n
+  pub within : start1957 ≤ k → k < start2057 → n < 1000000000 → At (record { secs = k; nanos = n }) ≡ givenOf s n
   unfolding givenOf
   within h l m = simp (
     e,
-    le-leb 17591775817216 (secondsOf s) (subst (λ (x : ℕ). 17591775817216 ≤ x) e h),
-    lt-ltb (secondsOf s) 17594931577216 (subst (λ (x : ℕ). x < 17594931577216) e l),
+    le-leb start1957 (secondsOf s) (subst (λ (x : ℕ). start1957 ≤ x) e h),
+    lt-ltb (secondsOf s) start2057 (subst (λ (x : ℕ). x < start2057) e l),
     lt-ltb n 1000000000 m,
   )
 
@@ -56,9 +57,9 @@ pub record Is (s : ℤ) (n secs nanos : ℕ) : Type 0 where
 accepted-at : (s : ℤ) (n : ℕ) → inRange s n ≡ true → Within 0 (secondsOf s) n
 unfolding inRange
 accepted-at s n h =
-    let a = and-true (leb 17591775817216 (secondsOf s)) (ltb (secondsOf s) 17594931577216 && ltb n 1000000000) h in
-    let b = and-true (ltb (secondsOf s) 17594931577216) (ltb n 1000000000) (a .1) in
-    record { low = omega (arith, leb-true 17591775817216 (secondsOf s) (a .0)); high = omega (arith, ltb-true (secondsOf s) 17594931577216 (b .0)); part = ltb-true n 1000000000 (b .1) }
+    let a = and-true (leb start1957 (secondsOf s)) (ltb (secondsOf s) start2057 && ltb n 1000000000) h in
+    let b = and-true (ltb (secondsOf s) start2057) (ltb n 1000000000) (a .1) in
+    record { low = omega (arith, leb-true start1957 (secondsOf s) (a .0)); high = omega (arith, ltb-true (secondsOf s) start2057 (b .0)); part = ltb-true n 1000000000 (b .1) }
 
 pub at-is : (s : ℤ) (n : ℕ) (i : Instant) → At i ≡ givenOf s n → Is s n (i .secs) (i .nanos)
 unfolding givenOf

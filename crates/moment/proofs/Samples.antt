@@ -16,6 +16,7 @@ use mir.Syntax.{w64}
 use mir.Val.{SFits, toZ, ofZ}
 use mir.ValLaws.{toZ-ofZ, toZ-pos}
 use borrow.Author.Tests.{lt-ltb, le-ltb, le-leb, ltb-true, ltb-false, not-true}
+use Rattle.moment.specs.Origin.{count1957, count1970, count2057, countsStart, perSecond, start1957, start1970, start2057}
 use Rattle.moment.specs.declared.Instant.{Instant}
 use Rattle.moment.specs.declared.Moment.{Moment}
 use Rattle.moment.specs.Time.{nanosOf, secondsOf, Sound}
@@ -56,10 +57,10 @@ shift-more j k (negsuc n) h = omega arith
 -- ---- the range
 
 pub record Ranged (t : ℤ) : Type 0 where
-  pub size : mag t < 4000000000000000000
-  pub low : 3589772800000000000 ≤ shifted 4000000000000000000 t
-  pub high : shifted 4000000000000000000 t < 6745532800000000000
-  pub count : sampleCount t ≡ shifted 4000000000000000000 t + 17588186044416000000000
+  pub size : mag t < count1970
+  pub low : count1957 ≤ shifted count1970 t
+  pub high : shifted count1970 t < count2057
+  pub count : sampleCount t ≡ shifted count1970 t + (countsStart * perSecond)
 
 pub ranged : (t : ℤ) → timeInRange t ≡ true → Ranged t
 unfolding timeInRange shifted
@@ -72,13 +73,13 @@ ranged (negsuc n) e =
 
 -- the code's seconds and nanoseconds
 instant-is : (t : ℤ) → timeInRange t ≡ true
-    → _≡_ {A = Instant} (record { secs = shifted 4000000000000000000 t / 1000000000 + 17588186044416; nanos = shifted 4000000000000000000 t % 1000000000 }) (instantAt t)
+    → _≡_ {A = Instant} (record { secs = shifted count1970 t / 1000000000 + countsStart; nanos = shifted count1970 t % 1000000000 }) (instantAt t)
 unfolding instantAt
-instant-is t e = split (shifted 4000000000000000000 t) (sampleCount t) (ranged t e .count)
+instant-is t e = split (shifted count1970 t) (sampleCount t) (ranged t e .count)
   where
-    split : (n m : ℕ) → m ≡ n + 17588186044416000000000 → _≡_ {A = Instant} (record { secs = n / 1000000000 + 17588186044416; nanos = n % 1000000000 }) (record { secs = m / 1000000000; nanos = m % 1000000000 })
+    split : (n m : ℕ) → m ≡ n + (countsStart * perSecond) → _≡_ {A = Instant} (record { secs = n / 1000000000 + countsStart; nanos = n % 1000000000 }) (record { secs = m / 1000000000; nanos = m % 1000000000 })
     split n m h =
-        let a : n / 1000000000 + 17588186044416 ≡ m / 1000000000 = omega arith in
+        let a : n / 1000000000 + countsStart ≡ m / 1000000000 = omega arith in
         let b : n % 1000000000 ≡ m % 1000000000 = omega arith in
         both a b
       where
@@ -91,8 +92,8 @@ instant-within t e = let r = ranged t e in let c = r .count in record { low = om
 
 -- both, as the code has them
 pub of-nanos : (t : ℤ) → timeInRange t ≡ true
-    → (_≡_ {A = Instant} (record { secs = shifted 4000000000000000000 t / 1000000000 + 17588186044416; nanos = shifted 4000000000000000000 t % 1000000000 }) (instantAt t))
-    × Within 0 (shifted 4000000000000000000 t / 1000000000 + 17588186044416) (shifted 4000000000000000000 t % 1000000000)
+    → (_≡_ {A = Instant} (record { secs = shifted count1970 t / 1000000000 + countsStart; nanos = shifted count1970 t % 1000000000 }) (instantAt t))
+    × Within 0 (shifted count1970 t / 1000000000 + countsStart) (shifted count1970 t % 1000000000)
 of-nanos t e = let r = ranged t e in (instant-is t e, record { low = omega arith; high = omega arith; part = omega arith })
 
 -- a sample time's moment counts its nanoseconds
@@ -155,21 +156,21 @@ mag-test false x y e h g = let l = ltb-false x y e in simp e (omega arith)
 pub sub-fits : (x y : ℕ) → x < 2 ^ 63 → y < 2 ^ 63 → SFits w64 (subℕ x y)
 sub-fits x y h g = record { sfits = mag-test (ltb x y) x y refl h g }
 
-pub read-sub : (n : ℕ) → n < 2 ^ 63 → toZ w64 n -ℤ pos 4000000000000000000 ≡ subℕ n 4000000000000000000
-read-sub n h = ap (λ (y : ℤ). y -ℤ pos 4000000000000000000) (toZ-pos w64 n h)
+pub read-sub : (n : ℕ) → n < 2 ^ 63 → toZ w64 n -ℤ pos count1970 ≡ subℕ n count1970
+read-sub n h = ap (λ (y : ℤ). y -ℤ pos count1970) (toZ-pos w64 n h)
 
-since-is : (m : Instant) → Within 622 (m .secs) (m .nanos) → subℕ ((m .secs - 17588186044416) * 1000000000 + m .nanos) 4000000000000000000 ≡ sinceOf m
+since-is : (m : Instant) → Within 622 (m .secs) (m .nanos) → subℕ ((m .secs - countsStart) * 1000000000 + m .nanos) count1970 ≡ sinceOf m
 unfolding sinceOf
 since-is m w =
-    let e : (m .secs - 17588186044416) * 1000000000 + m .nanos + 17588186044416000000000 ≡ nanosOf (m .secs) (m .nanos) = omega arith in
-    sym (sub-both ((m .secs - 17588186044416) * 1000000000 + m .nanos) 4000000000000000000 17588186044416000000000) ∙ ap (λ (x : ℕ). subℕ x 17592186044416000000000) e
+    let e : (m .secs - countsStart) * 1000000000 + m .nanos + (countsStart * perSecond) ≡ nanosOf (m .secs) (m .nanos) = omega arith in
+    sym (sub-both ((m .secs - countsStart) * 1000000000 + m .nanos) count1970 (countsStart * perSecond)) ∙ ap (λ (x : ℕ). subℕ x (start1970 * perSecond)) e
 
 -- what the machine makes of it
 pub read-since : (m : Instant) → Within 622 (m .secs) (m .nanos)
-    → toZ w64 (ofZ w64 (toZ w64 ((m .secs - 17588186044416) * 1000000000 + m .nanos) -ℤ pos 4000000000000000000)) ≡ sinceOf m
+    → toZ w64 (ofZ w64 (toZ w64 ((m .secs - countsStart) * 1000000000 + m .nanos) -ℤ pos count1970)) ≡ sinceOf m
 read-since m w =
-    ap (λ (y : ℤ). toZ w64 (ofZ w64 y)) (read-sub ((m .secs - 17588186044416) * 1000000000 + m .nanos) (omega arith))
-    ∙ toZ-ofZ w64 (subℕ ((m .secs - 17588186044416) * 1000000000 + m .nanos) 4000000000000000000) (sub-fits ((m .secs - 17588186044416) * 1000000000 + m .nanos) 4000000000000000000 (omega arith) (lit< tt))
+    ap (λ (y : ℤ). toZ w64 (ofZ w64 y)) (read-sub ((m .secs - countsStart) * 1000000000 + m .nanos) (omega arith))
+    ∙ toZ-ofZ w64 (subℕ ((m .secs - countsStart) * 1000000000 + m .nanos) count1970) (sub-fits ((m .secs - countsStart) * 1000000000 + m .nanos) count1970 (omega arith) (lit< tt))
     ∙ since-is m w
 
 -- ---- there and back
@@ -187,34 +188,34 @@ back-test k (negsuc n) h =
 pub since-instant : (t : ℤ) → timeInRange t ≡ true → sinceOf (instantAt t) ≡ t
 unfolding sinceOf
 since-instant t e =
-    ap (λ (x : ℕ). subℕ x 17592186044416000000000) (instant-counts t ∙ ranged t e .count)
-    ∙ sub-both (shifted 4000000000000000000 t) 4000000000000000000 17588186044416000000000
-    ∙ back-test 4000000000000000000 t (ranged t e .size)
+    ap (λ (x : ℕ). subℕ x (start1970 * perSecond)) (instant-counts t ∙ ranged t e .count)
+    ∙ sub-both (shifted count1970 t) count1970 (countsStart * perSecond)
+    ∙ back-test count1970 t (ranged t e .size)
 
 -- ---- a sample time as a moment for callers
 
-secs-of : (t : ℤ) → mag t < 4000000000000000000 → secondsOf (momentAt t .seconds) ≡ instantAt t .secs
+secs-of : (t : ℤ) → mag t < count1970 → secondsOf (momentAt t .seconds) ≡ instantAt t .secs
 unfolding momentAt instantAt secondsOf shifted
 secs-of (pos n) h = omega arith
 secs-of (negsuc n) h = omega arith
 
-nanos-of : (t : ℤ) → mag t < 4000000000000000000 → momentAt t .nanos ≡ instantAt t .nanos
+nanos-of : (t : ℤ) → mag t < count1970 → momentAt t .nanos ≡ instantAt t .nanos
 unfolding momentAt instantAt shifted
 nanos-of (pos n) h = omega arith
 nanos-of (negsuc n) h = omega arith
 
-shifted-secs : (t : ℤ) → mag t < 4000000000000000000 → shifted 17592186044416 (momentAt t .seconds) ≡ instantAt t .secs
+shifted-secs : (t : ℤ) → mag t < count1970 → shifted start1970 (momentAt t .seconds) ≡ instantAt t .secs
 unfolding momentAt instantAt shifted
 shifted-secs (pos n) h = omega arith
 shifted-secs (negsuc n) h = omega arith
 
-small-secs : (t : ℤ) → mag t < 4000000000000000000 → mag (momentAt t .seconds) < 17592186044416
+small-secs : (t : ℤ) → mag t < count1970 → mag (momentAt t .seconds) < start1970
 unfolding momentAt
 small-secs (pos n) h = omega arith
 small-secs (negsuc n) h = omega arith
 
-back-secs : (t : ℤ) → mag t < 4000000000000000000 → subℕ (instantAt t .secs) 17592186044416 ≡ momentAt t .seconds
-back-secs t h = ap (λ (x : ℕ). subℕ x 17592186044416) (sym (shifted-secs t h)) ∙ back-test 17592186044416 (momentAt t .seconds) (small-secs t h)
+back-secs : (t : ℤ) → mag t < count1970 → subℕ (instantAt t .secs) start1970 ≡ momentAt t .seconds
+back-secs t h = ap (λ (x : ℕ). subℕ x start1970) (sym (shifted-secs t h)) ∙ back-test start1970 (momentAt t .seconds) (small-secs t h)
 
 module _ (t : ℤ) (e : timeInRange t ≡ true) where
   -- its seconds and nanoseconds are those of its instant
@@ -238,22 +239,22 @@ module _ (t : ℤ) (e : timeInRange t ≡ true) where
       simp (
         moment-secs,
         moment-nanos,
-        le-leb 17591775817216 (instantAt t .secs) (omega (arith, w .low)),
-        lt-ltb (instantAt t .secs) 17594931577216 (omega (arith, w .high)),
+        le-leb start1957 (instantAt t .secs) (omega (arith, w .low)),
+        lt-ltb (instantAt t .secs) start2057 (omega (arith, w .high)),
         lt-ltb (instantAt t .nanos) 1000000000 (w .part),
       )
 
   -- what the machine makes of the seconds
   pub read-moment : (m : Instant) → m ≡ instantAt t
-      → _≡_ {A = Moment} (record { seconds = toZ w64 (ofZ w64 (toZ w64 (m .secs) -ℤ pos 17592186044416)); nanos = m .nanos }) (momentAt t)
+      → _≡_ {A = Moment} (record { seconds = toZ w64 (ofZ w64 (toZ w64 (m .secs) -ℤ pos start1970)); nanos = m .nanos }) (momentAt t)
   read-moment m same =
       let w : Within 0 (m .secs) (m .nanos) = rw same (instant-within t e) in
       let small : m .secs < 2 ^ 63 = omega (arith, w .high) in
       ap₂ (λ (x : ℤ) (y : ℕ). record { seconds = x; nanos = y })
       (
-      ap (λ (y : ℤ). toZ w64 (ofZ w64 (y -ℤ pos 17592186044416))) (toZ-pos w64 (m .secs) small)
-      ∙ toZ-ofZ w64 (subℕ (m .secs) 17592186044416) (sub-fits (m .secs) 17592186044416 small (lit< tt))
-      ∙ ap (λ (x : Instant). subℕ (x .secs) 17592186044416) same
+      ap (λ (y : ℤ). toZ w64 (ofZ w64 (y -ℤ pos start1970))) (toZ-pos w64 (m .secs) small)
+      ∙ toZ-ofZ w64 (subℕ (m .secs) start1970) (sub-fits (m .secs) start1970 small (lit< tt))
+      ∙ ap (λ (x : Instant). subℕ (x .secs) start1970) same
       ∙ back-secs t (ranged t e .size)
       )
       (ap (λ (x : Instant). x .nanos) same ∙ sym moment-nanos)

@@ -1,3 +1,4 @@
+pub mod Origin
 pub mod Time
 pub mod Range
 pub mod Sample

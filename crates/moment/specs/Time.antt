@@ -7,29 +7,30 @@ use lib.IntN.{ℤ, pos, negsuc, negℤ}
 use lib.Ieee.{Float, binary64, ofInt, ofBits, round}
 use Rattle.float.specs.Constant.{decimal}
 use Rattle.float.specs.Ops.{_⊘_, bits}
+use Rattle.moment.specs.Origin.{perSecond, start1970, earliest, latest}
 
 -- seconds since 1970 as a count from 2^44 s before; 0 if earlier
 unfoldable pub secondsOf : ℤ → ℕ
-secondsOf (pos n) = 17592186044416 + n
-secondsOf (negsuc n) = 17592186044416 - suc n
+secondsOf (pos n) = start1970 + n
+secondsOf (negsuc n) = start1970 - suc n
 
 abbrev pub nanosOf : ℕ → ℕ → ℕ
-nanosOf secs nanos = secs * 1000000000 + nanos
+nanosOf secs nanos = secs * perSecond + nanos
 
 -- over 8,000,000,000,000 s from 1970: refusal 23
 unfoldable pub overOf : ℕ → Bool
-overOf t = ltb t (9592186044416 * 1000000000) || ltb (25592186044416 * 1000000000) t
+overOf t = ltb t (earliest * perSecond) || ltb (latest * perSecond) t
 
 -- what is not over, with its nanoseconds below a second
 pub record Sound (secs nanos : ℕ) : Type 0 where
-  pub low : 9592186044416 ≤ secs
-  pub high : secs ≤ 25592186044416
-  pub part : nanos < 1000000000
+  pub low : earliest ≤ secs
+  pub high : secs ≤ latest
+  pub part : nanos < perSecond
 
 -- seconds and nanoseconds that count n nanoseconds
 pub record Normal (secs nanos n : ℕ) : Type 0 where
   pub counts : nanosOf secs nanos ≡ n
-  pub part : nanos < 1000000000
+  pub part : nanos < perSecond
 
 -- t moved by z units of so many nanoseconds
 unfoldable pub movedOf : ℕ → ℕ → ℤ → ℕ

@@ -32,9 +32,9 @@ pub fn of_nanos(t: i64) -> Instant
     requires { ⌜ timeInRange t ≡ true ⌝ }
     ensures { λ r. ⌜ (r ≡ instantAt t) × Within 0 (r .secs) (r .nanos) ⌝ }
 {
-    let n = (t + 4000000000000000000) as u64;
+    let n = (t + crate::COUNT_1970) as u64;
     Instant {
-        secs: n / 1000000000 + 17588186044416,
+        secs: n / 1000000000 + crate::COUNTS_START,
         nanos: (n % 1000000000) as u32,
     }
 }
@@ -43,8 +43,8 @@ pub fn to_nanos(m: Instant) -> i64
     requires { ⌜ Within 622 (m .secs) (m .nanos) ⌝ }
     ensures { λ r. ⌜ r ≡ sinceOf m ⌝ }
 {
-    let n = (m.secs - 17588186044416) * 1000000000 + m.nanos as u64;
-    n as i64 - 4000000000000000000
+    let n = (m.secs - crate::COUNTS_START) * 1000000000 + m.nanos as u64;
+    n as i64 - crate::COUNT_1970
 }
 
 // As a caller gets it: whole seconds, downward.

@@ -9,6 +9,7 @@ use mir.Syntax.{w64}
 use mir.Val.{SFits, toZ, ofZ}
 use mir.ValLaws.{toZ-ofZ}
 use borrow.Author.Tests.{ltb-true, ltb-false, leb-true, lt-ltb, le-ltb}
+use Rattle.moment.specs.Origin.{perSecond, reader1970}
 use Rattle.moment.specs.Sample.{timeInRange}
 use Rattle.moment.proofs.Samples.{sub-both, sub-fits}
 use Rattle.passes.specs.Line.{inside, since1970}
@@ -16,23 +17,23 @@ use Rattle.passes.specs.Line.{inside, since1970}
 -- ---- the range, of a − b for the b of 1970
 module _ (a : ℕ) where
   abbrev t : ℤ
-  t = subℕ a 62167305600000000000
+  t = subℕ a (reader1970 * perSecond)
 
   early : a < 61757078400000000000 → timeInRange t ≡ false
   unfolding timeInRange
-  early h = simp (lt-ltb a 62167305600000000000 (omega arith), lt-ltb 410227199999999999 (62167305600000000000 - suc a) (omega arith))
+  early h = simp (lt-ltb a (reader1970 * perSecond) (omega arith), lt-ltb 410227199999999999 ((reader1970 * perSecond) - suc a) (omega arith))
 
   late : 64912838400000000000 ≤ a → timeInRange t ≡ false
   unfolding timeInRange
-  late h = simp (le-ltb a 62167305600000000000 (omega arith), le-ltb (a - 62167305600000000000) 2745532800000000000 (omega arith))
+  late h = simp (le-ltb a (reader1970 * perSecond) (omega arith), le-ltb (a - (reader1970 * perSecond)) 2745532800000000000 (omega arith))
 
   between : 61757078400000000000 ≤ a → a < 64912838400000000000 → timeInRange t ≡ true
   unfolding timeInRange
-  between h g = go (ltb a 62167305600000000000) refl
+  between h g = go (ltb a (reader1970 * perSecond)) refl
     where
-      go : (b : Bool) → ltb a 62167305600000000000 ≡ b → timeInRange (cond b (negsuc (62167305600000000000 - suc a)) (pos (a - 62167305600000000000))) ≡ true
-      go true e = simp (le-ltb 410227199999999999 (62167305600000000000 - suc a) (omega arith))
-      go false e = let k = ltb-false a 62167305600000000000 e in lt-ltb (a - 62167305600000000000) 2745532800000000000 (omega arith)
+      go : (b : Bool) → ltb a (reader1970 * perSecond) ≡ b → timeInRange (cond b (negsuc ((reader1970 * perSecond) - suc a)) (pos (a - (reader1970 * perSecond)))) ≡ true
+      go true e = simp (le-ltb 410227199999999999 ((reader1970 * perSecond) - suc a) (omega arith))
+      go false e = let k = ltb-false a (reader1970 * perSecond) e in lt-ltb (a - (reader1970 * perSecond)) 2745532800000000000 (omega arith)
 
 -- ---- what `inside` tests
 and-no : (a b : Bool) → a ≡ false → (a && b) ≡ false
@@ -100,7 +101,7 @@ module _ (s n : ℕ) (e : inside s n ≡ true) where
   since =
       let i = is-inside s n e in
       let h : m + 61757078400000000000 ≡ s * 1000000000 + n = omega (arith, i .low) in
-      sym (sub-both m 410227200000000000 61757078400000000000) ∙ ap (λ (k : ℕ). subℕ k 62167305600000000000) h
+      sym (sub-both m 410227200000000000 61757078400000000000) ∙ ap (λ (k : ℕ). subℕ k (reader1970 * perSecond)) h
 
   -- a number below 2 ^ 63 is read as itself
   read-pos : toZ w64 m ≡ pos m

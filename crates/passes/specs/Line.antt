@@ -9,6 +9,7 @@ use Rattle.text.specs.Text.{bytes, code}
 use Rattle.decimal.specs.Read.{spells, number}
 use Rattle.decimal.specs.declared.read.Number.{Number}
 use Rattle.decimal.specs.declared.read.Number.the-variants as Num
+use Rattle.moment.specs.Origin.{perSecond, reader1970}
 use Rattle.moment.specs.Sample.{timeInRange}
 use Rattle.rfc3339.specs.Rfc3339.{dateTimeOf}
 use Rattle.rfc3339.specs.declared.Timestamp.{Timestamp}
@@ -18,10 +19,9 @@ use Rattle.passes.specs.Text.{blanks, trim, until, ascii}
 use Rattle.passes.specs.declared.line.Line.{Line}
 use Rattle.passes.specs.declared.line.Line.the-variants.{Skipped, Refusal, Name, Center, Sample}
 
--- Nanoseconds since 1970, of s and n as RFC 3339's reader counts them: seconds from a day before the year 0000, after which 1970 begins
--- with day 719,529.
+-- nanoseconds since 1970, of s and n as RFC 3339's reader counts them
 abbrev pub since1970 : ℕ → ℕ → ℤ
-since1970 s n = subℕ (s * 1000000000 + n) 62167305600000000000
+since1970 s n = subℕ (s * perSecond + n) (reader1970 * perSecond)
 
 -- else refusal 4
 unfoldable pub inside : ℕ → ℕ → Bool

@@ -11,6 +11,13 @@ use decimal::read;
 use decimal::read::Number;
 use rfc3339::Timestamp;
 
+// 1957 and 2057 in seconds as RFC 3339's reader counts them, and how many nanoseconds before 1970 the first is.
+const READER_1957: u64 = 61757078400;
+
+const READER_2057: u64 = 64912838400;
+
+const FROM_1957: i64 = 410227200000000000;
+
 pub enum Line {
     Skipped,
     Refusal(u32),
@@ -25,10 +32,10 @@ pub enum Line {
 fn inside(s: u64, n: u64) -> bool
     ensures { λ r. ⌜ r ≡ Spec.inside s n ⌝ }
 {
-    if s < 61757078400 {
+    if s < READER_1957 {
         return false;
     }
-    if 64912838400 <= s {
+    if READER_2057 <= s {
         return false;
     }
     n <= 999999999
@@ -38,7 +45,7 @@ fn since_1970(s: u64, n: u64) -> i64
     requires { ⌜ Spec.inside s n ≡ true ⌝ }
     ensures { λ r. ⌜ r ≡ Spec.since1970 s n ⌝ }
 {
-    ((s - 61757078400) * 1000000000 + n) as i64 - 410227200000000000
+    ((s - READER_1957) * 1000000000 + n) as i64 - FROM_1957
 }
 
 fn sample_of(s: u64, n: u64, v: Number) -> Line

@@ -15,6 +15,7 @@ use Rattle.float.specs.declared.trig.SinCos.{SinCos}
 use Rattle.float.specs.Trig.{sinOf, cosOf}
 use Rattle.frame.specs.Julian.{jdAt}
 use Rattle.frame.specs.Rotation.{thetaOf}
+use Rattle.moment.specs.Origin.{count1957, count2057, march1956, march2096}
 use Rattle.moment.specs.Time.{nanosOf, tauMillisOf}
 use Rattle.moment.specs.Sample.{timeInRange, Timed, instantAt}
 use Rattle.moment.specs.declared.Instant.{Instant}
@@ -74,7 +75,7 @@ all-written h l w = record { room = omega (arith, w .long); each = λ j q. w .do
 
 -- ---- a sample's rotation
 
-pub dated : (n : ℕ) → 3589772800000000000 ≤ n → n < 6745532800000000000 → (17591749378816 ≤ instantOf n .secs) × (instantOf n .secs < 17596167442816)
+pub dated : (n : ℕ) → count1957 ≤ n → n < count2057 → (march1956 ≤ instantOf n .secs) × (instantOf n .secs < march2096)
 unfolding instantOf
 dated n h l = (omega arith, omega arith)
 
@@ -99,7 +100,7 @@ counts-get (t ∷ ts) (suc k) h = counts-get ts k (le-of-suc-le-suc h)
 pub counts-dated : (ts : List ℤ) → Timed ts → Dated (countsAt ts)
 counts-dated ts w = record { each = λ k h. one k (rw counts-length at h) }
   where
-    one : (k : ℕ) → k < length ts → (3589772800000000000 ≤ getD (countsAt ts) k 0) × (getD (countsAt ts) k 0 < 6745532800000000000)
+    one : (k : ℕ) → k < length ts → (count1957 ≤ getD (countsAt ts) k 0) × (getD (countsAt ts) k 0 < count2057)
     one k h = let r = ranged (getD ts k (pos 0)) (w .each k h) in rw (counts-get ts k h) (r .low, r .high)
 
 pub instant-same : (t : ℤ) → timeInRange t ≡ true → instantOf (countAt t) ≡ instantAt t

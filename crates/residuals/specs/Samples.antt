@@ -6,6 +6,7 @@ use lib.IntN.{ℤ}
 use lib.ListN.{length, getD}
 use lib.Ieee.{Float, nan}
 use Rattle.float.specs.declared.trig.SinCos.{SinCos}
+use Rattle.moment.specs.Origin.{perSecond, count1970, count1957, count2057, countsStart}
 use Rattle.moment.specs.Time.{nanosOf, Sound}
 use Rattle.moment.specs.Sample.{shifted}
 use Rattle.moment.specs.declared.Instant.{Instant}
@@ -22,7 +23,7 @@ pub record Passes : Type 0 where
 
 -- a sample time's count, of a time in range; and of all
 abbrev pub countAt : ℤ → ℕ
-countAt t = shifted 4000000000000000000 t
+countAt t = shifted count1970 t
 
 unfoldable pub countsAt : List ℤ → List ℕ
 countsAt [] = []
@@ -33,7 +34,7 @@ passesOf counts times freqs = record { counts = counts; times = times; freqs = f
 
 -- such a moment by seconds from 2^44 s before 1970 on, and by nanoseconds from there
 unfoldable pub instantOf : ℕ → Instant
-instantOf n = record { secs = n / 1000000000 + 17588186044416; nanos = n % 1000000000 }
+instantOf n = record { secs = n / perSecond + countsStart; nanos = n % perSecond }
 
 unfoldable pub nanosAt : ℕ → ℕ
 nanosAt n = nanosOf (instantOf n .secs) (instantOf n .nanos)
@@ -44,7 +45,7 @@ rotationAt n = turnAt (instantOf n .secs) (instantOf n .nanos)
 
 -- every moment is from 1957-01-01 on and before 2057-01-01: no refusal 4
 pub record Dated (times : List ℕ) : Type 0 where
-  pub each : (k : ℕ) → k < length times → (3589772800000000000 ≤ getD times k 0) × (getD times k 0 < 6745532800000000000)
+  pub each : (k : ℕ) → k < length times → (count1957 ≤ getD times k 0) × (getD times k 0 < count2057)
 
 -- the k-th sine and cosine of a list of both
 abbrev pub turnIn : List Float → ℕ → SinCos

@@ -107,7 +107,7 @@ fn count_at(t: i64) -> u64
     requires { ⌜ timeInRange t ≡ true ⌝ }
     ensures { λ r. ⌜ r ≡ countAt t ⌝ }
 {
-    (t + 4000000000000000000) as u64
+    (t + moment::COUNT_1970) as u64
 }
 
 fn put_count(times: &[i64], k: usize, out: &mut [u64])
@@ -132,7 +132,7 @@ fn instant(n: u64) -> Instant
     ensures { λ r. ⌜ (r ≡ instantOf n) × Sound (r .secs) (r .nanos) ⌝ }
 {
     Instant {
-        secs: n / 1000000000 + 17588186044416,
+        secs: n / 1000000000 + moment::COUNTS_START,
         nanos: (n % 1000000000) as u32,
     }
 }

@@ -8,6 +8,7 @@ use lib.Ieee.{Float}
 use lib.Ieee.Fits.{and-l, and-r}
 use Rattle.float.specs.Ops.{bits, degreesOf}
 use Rattle.float.specs.Trig.{isFinite}
+use Rattle.moment.specs.Origin.{march1956}
 use Rattle.moment.specs.Calendar.{dateOf, ordinalOf}
 use Rattle.moment.specs.Range.{Within}
 use Rattle.moment.proofs.Numbers.{day}
@@ -22,7 +23,7 @@ use Rattle.tle.proofs.Ranges.{UpTo, degrees-up, mean-motion-up, day-up}
 pub epoch-up : (secs nanos : ℕ) → Within 0 secs nanos → UpTo 367 (epochAt secs nanos .day)
 unfolding epochAt
 epoch-up secs nanos h =
-    let s = secs - 17591749378816 in
+    let s = secs - march1956 in
     let n = h .part in
     day-up (ordinalOf (dateOf (s / 86400))) (s % 86400) nanos (ordinal-le _ (day (s / 86400) .dated)) (mod-lt s (lit< tt)) (omega arith)
 

@@ -12,6 +12,7 @@ use Rattle.float.specs.Ops.{_⊕_, bits, remEuclidOf, degreesOf, degreesPerRadi
 use Rattle.float.specs.Trig.{full, pi}
 use Rattle.roots.specs.Root.{sqrtOf}
 use Rattle.decimal.specs.Fixed.{nearestUnits, fixedText, cellAt}
+use Rattle.moment.specs.Origin.{march1956}
 use Rattle.moment.specs.Time.{secondsOf}
 use Rattle.moment.specs.Range.{inRange}
 use Rattle.moment.specs.Calendar.{leap, monthLength, monthsLength, dateOf, ordinalOf}
@@ -29,7 +30,7 @@ use Rattle.tle.specs.declared.elements.Epoch.{Epoch}
 -- ---- dates and times
 
 -- a moment on the day d
-epoch-on : (t : Moment) (d : Date) → let s = secondsOf (t .seconds) - 17591749378816 in dateOf (s / 86400) ≡ d
+epoch-on : (t : Moment) (d : Date) → let s = secondsOf (t .seconds) - march1956 in dateOf (s / 86400) ≡ d
     → epochOf t ≡ record { year = d .year; day = ofNat (ordinalOf d) ⊕ dayFraction (s % 86400) (t .nanos) }
 unfolding epochAt
 epoch-on t d h = simp h

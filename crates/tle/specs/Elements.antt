@@ -8,6 +8,7 @@ use Rattle.float.specs.Constant.{decimal}
 use Rattle.float.specs.Ops.{_⊕_, _⊗_, _⊘_, bits, remEuclidOf, degreesOf}
 use Rattle.float.specs.Trig.{full}
 use Rattle.roots.specs.Root.{sqrtOf}
+use Rattle.moment.specs.Origin.{perDay, march1956}
 use Rattle.moment.specs.Time.{secondsOf}
 use Rattle.moment.specs.Calendar.{dateOf, ordinalOf}
 use Rattle.moment.specs.declared.Moment.{Moment}
@@ -73,12 +74,12 @@ dayFraction secs nanos =
     (ofNat (secs / 3600) ⊗ secondsPerHour ⊕ ofNat (secs / 60 % 60) ⊗ secondsPerMinute ⊕ ofNat (secs % 60) ⊕ ofNat nanos ⊘ nanosPerSecond)
     ⊘ secondsPerDay
 
--- of the moment secs − 2^44 seconds after 1970 and so many nanoseconds; 1956-03-01 is 17,591,749,378,816
+-- of the moment secs − 2^44 seconds after 1970 and so many nanoseconds
 unfoldable pub epochAt : ℕ → ℕ → Epoch
 epochAt secs nanos =
-    let s = secs - 17591749378816 in
-    let date = dateOf (s / 86400) in
-    record { year = date .year; day = ofNat (ordinalOf date) ⊕ dayFraction (s % 86400) nanos }
+    let s = secs - march1956 in
+    let date = dateOf (s / perDay) in
+    record { year = date .year; day = ofNat (ordinalOf date) ⊕ dayFraction (s % perDay) nanos }
 
 abbrev pub epochOf : Moment → Epoch
 epochOf t = epochAt (secondsOf (t .seconds)) (t .nanos)

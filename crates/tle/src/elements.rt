@@ -40,7 +40,7 @@ pub fn epoch_of(t: Instant) -> Epoch
     requires { ⌜ Within 0 (t .secs) (t .nanos) ⌝ }
     ensures { λ r. ⌜ r ≡ epochAt (t .secs) (t .nanos) ⌝ }
 {
-    let s = t.secs - 17591749378816;
+    let s = t.secs - moment::MARCH_1956;
     let date = moment::calendar::date_of(s / 86400);
     let day_of_year = moment::calendar::ordinal(date) as f64;
     Epoch {

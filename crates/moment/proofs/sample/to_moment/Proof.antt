@@ -8,16 +8,17 @@ use mir.Syntax.{w64}
 use mir.Val.{SFits, toZ}
 use mir.ValLaws.{toZ-ofZ, toZ-pos}
 use borrow.Author.Needs.{needs}
+use Rattle.moment.specs.Origin.{start1970}
 use Rattle.moment.specs.Range.{Within}
 use Rattle.moment.specs.Sample.{instantAt}
 use Rattle.moment.proofs.Samples.{read-moment, sub-fits}
 use Rattle.moment.proofs.sample.to_moment.Statement.{statement}
 use Rattle.moment.proofs.sample.to_moment.Tie as tie
 
-seconds-fit : (s n : ℕ) → Within 0 s n → SFits w64 (toZ w64 s -ℤ pos 17592186044416)
+seconds-fit : (s n : ℕ) → Within 0 s n → SFits w64 (toZ w64 s -ℤ pos start1970)
 seconds-fit s n w =
     let small : s < 2 ^ 63 = omega (arith, w .high) in
-    rw (toZ-pos w64 s small) (sub-fits s 17592186044416 small (lit< tt))
+    rw (toZ-pos w64 s small) (sub-fits s start1970 small (lit< tt))
 
 sub-t4 : tie.Need-sub-t4
 sub-t4 c = seconds-fit _ _ (c .before .of-nanos .ensures .1)

@@ -2,6 +2,7 @@ use mathlib.Core.Path.{_≡_}
 use Prim.Native.Nat.{ℕ, _-_, _/_, _%_}
 use lib.Ieee.{Float}
 use Rattle.float.specs.Ops.{_⊕_}
+use Rattle.moment.specs.Origin.{march1956}
 use Rattle.moment.specs.Calendar.{dateOf, ordinalOf}
 use Rattle.moment.specs.declared.calendar.Date.{Date}
 use Rattle.tle.specs.Elements.{ofNat, dayFraction, epochAt}
@@ -29,7 +30,7 @@ cast-day-fraction c = search needs
 day-fraction-requires : tie.Need-day-fraction-requires
 day-fraction-requires c κs = search needs
 
-made : (secs nanos : ℕ) (d : Date) (o : ℕ) (f : Float) → let s = secs - 17591749378816 in d ≡ dateOf (s / 86400) → o ≡ ordinalOf d → f ≡ dayFraction (s % 86400) nanos
+made : (secs nanos : ℕ) (d : Date) (o : ℕ) (f : Float) → let s = secs - march1956 in d ≡ dateOf (s / 86400) → o ≡ ordinalOf d → f ≡ dayFraction (s % 86400) nanos
     → _≡_ {A = Epoch} (record { year = d .year; day = ofNat o ⊕ f }) (epochAt secs nanos)
 unfolding epochAt
 made secs nanos d o f p q r = simp (r, q, p)
