@@ -13,14 +13,36 @@ would go to the even pattern. Powers are compared in units of 2^-1075 to the sam
 
 The arguments are both zeros, infinities, NaNs of either sign, negative numbers, the ends of the subnormal and of the
 normal numbers, powers of two and squares and cubes with their neighbours, the numbers on either side of the power
-of a midpoint between two answers (the nearest there is to a tie: no root of an f64 is a midpoint), subnormal
-numbers and patterns drawn from a generator with a fixed seed.
+of a midpoint between two answers (no root of an f64 is a midpoint), the numbers found whose cube root is nearest to a
+midpoint, subnormal numbers and patterns drawn from a generator with a fixed seed.
 """
 import random
 
 INFINITY = 0x7FF0000000000000
 NAN = 0x7FF8000000000000
 SIGN = 0x8000000000000000
+
+
+# Cube roots nearly halfway between two f64, with how far the midpoint's cube is from the number, in the units of
+# `oracle/hard_cubes.c`, which finds them: the two nearest that are known, and the nearest in three stretches of 2^42
+# numbers, from 1.5, 3 and 6 on.
+HARD_CUBES = [
+    0x4009B78223AA307C,  # −2^53.71
+    0x401A202BFC89DDFF,  # −2^55.20
+    0x3FF80056C7156BAD,  # −2^67.08
+    0x3FF800A93D014E89,  # −2^67.80
+    0x3FF800EEDBF38435,  # +2^67.93
+    0x3FF801F104A711EA,  # −2^65.54
+    0x3FF802A93E0DA31E,  # +2^66.80
+    0x3FF8030866511165,  # +2^64.94
+    0x3FF803507006D5DA,  # −2^67.38
+    0x400800F1FC2BF6C6,  # −2^67.85
+    0x400801D6B38B6D9F,  # −2^67.13
+    0x4018004DF00D603D,  # +2^63.89
+    0x40180176AD5FC691,  # +2^67.24
+    0x40180199277434F5,  # +2^62.26
+    0x401803948AC4BBD8,  # +2^67.40
+]
 
 
 def units(bits):
@@ -101,6 +123,8 @@ def arguments(power):
         found += beside(below(n ** power << 1075))
     for _ in range(100):
         found += near_tie(draw, power)
+    if power == 3:
+        found += [bits + (3 * scale << 52) for bits in HARD_CUBES for scale in (0, -300, 300)]
     found += [draw.randrange(1, 1 << 52) >> draw.randrange(52) for _ in range(100)]
     found += [draw.randrange(INFINITY) for _ in range(400)]
     found += [draw.randrange(INFINITY) | SIGN for _ in range(10)]
