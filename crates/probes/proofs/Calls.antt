@@ -1,27 +1,30 @@
 -- What a call that is not refused knows, and what its parts give it. Assumes nothing.
-use mathlib.Core.Path.{_≡_, refl, sym, ap, _∙_}
+use mathlib.Core.Path.{_≡_, refl, sym, ap, subst, _∙_}
 use mathlib.Core.Bool.{Bool, true, false, not}
-use mathlib.Core.List.{List, [], _∷_, _++_}
+use mathlib.Core.List.{List, [], _∷_, _++_, append-assoc}
 use mathlib.Core.Option.{Option, none, some}
-use Prim.Native.Nat.{ℕ, zero, suc, _*_, _≤_, _<_}
+use Prim.Native.Nat.{ℕ, zero, suc, _+_, _*_, _≤_, _<_}
 use native.Mathlib.Omega.{arith}
 use native.Mathlib.Nat.{mul-le-mul, le-of-eq}
+use native.Mathlib.Numerals.{add-one}
 use lib.Dec.{leb, ltb}
-use lib.IntN.{ℤ}
-use lib.ListN.{length, take}
-use lib.Seq.{take-all, take-at}
-use lib.Ieee.{Float}
+use lib.IntN.{ℤ, pos}
+use lib.ListN.{length, getD, set, take, drop, replicate}
+use lib.Seq.{take-all, take-at, take-suc, take-length, drop-cons, set-at, length-take-le}
+use lib.Ieee.{Float, nan}
 use borrow.Author.Tests.{ltb-false}
-use Rattle.refusal.specs.Numbers.{moment-range, sizes, few-samples, short-memory}
+use Rattle.refusal.specs.Numbers.{moment-range, sizes, short-memory}
 use Rattle.refusal.specs.Order.{_if_, first}
-use Rattle.moment.specs.Sample.{timesInRange, Timed}
+use Rattle.moment.specs.Sample.{timesInRange, Timed, instantAt}
 use Rattle.moment.specs.Time.{Sound}
 use Rattle.moment.proofs.Samples.{timed}
 use Rattle.pass_set.specs.PassSet.{sizesAgree}
-use Rattle.pass_set.proofs.Laws as set
+use Rattle.pass_set.proofs.Laws as laws
+use Rattle.approach.specs.Turns.{PassSet}
 use Rattle.float.specs.Ops.{bits}
+use Rattle.search.specs.declared.Found.{Found}
 use Rattle.residuals.specs.Samples.{Passes, countsAt, passesOf, Dated, Rotations, Samples}
-use Rattle.residuals.specs.Residuals.{placeOf, rowsOf, penalisedSum, each, sumOf}
+use Rattle.residuals.specs.Residuals.{placeOf, rowsOf, penalisedSum, sumOf}
 use Rattle.residuals.specs.Answers as residuals
 use Rattle.residuals.specs.declared.Station.{Station}
 use Rattle.residuals.specs.declared.Sum.{Sum}
@@ -33,42 +36,71 @@ use Rattle.refine.proofs.Advances.{places-few, rows-fit}
 use Rattle.trials.specs.Trials.{Fits, Turns, stepOf, afterOf}
 use Rattle.trials.specs.declared.State.{State}
 use Rattle.trials.specs.declared.Turned.{Turned}
-use Rattle.refine_call.specs.Call.{refusalOf, Accepted, Prepared, Sums, Tries, sumAnswer, tried, trialOf}
-use Rattle.refine_call.specs.declared.Residuals.{Residuals}
+use Rattle.probes.specs.Call.{probeRefusal, cleared, epochOf, Searches, Accepted, Prepared, Sums, tried, trialOf, trialRefusal, zeroState, endingRefusal, stateUnless, Tries}
+use Rattle.probes.specs.declared.Tried.{Tried}
 
-none-given : (a b c d : Bool) → first ((moment-range if not a) ∷ (sizes if not b) ∷ (few-samples if c) ∷ (short-memory if d) ∷ []) ≡ 0
-    → (a ≡ true) × (b ≡ true) × (c ≡ false) × (d ≡ false)
-none-given true true false false h = (refl, refl, refl, refl)
-none-given true true false true h = absurd (omega (arith, h))
-none-given true true true d h = absurd (omega (arith, h))
-none-given true false c d h = absurd (omega (arith, h))
-none-given false b c d h = absurd (omega (arith, h))
+-- ---- no refusal before the work
 
-pub record Taken (counts : List ℕ) (times : List ℤ) (freqs : List Float) (room least : ℕ) : Type 0 where
+none-given : (a b c : Bool) → first ((moment-range if not a) ∷ (sizes if not b) ∷ (short-memory if c) ∷ []) ≡ 0 → (a ≡ true) × (b ≡ true) × (c ≡ false)
+none-given true true false h = (refl, refl, refl)
+none-given true true true h = absurd (omega (arith, h))
+none-given true false c h = absurd (omega (arith, h))
+none-given false b c h = absurd (omega (arith, h))
+
+pub record Taken (counts : List ℕ) (times : List ℤ) (freqs : List Float) (centres room least : ℕ) : Type 0 where
   pub timed : Timed times
-  pub agree : sizesAgree counts (length times) (length freqs) (length counts) ≡ true
+  pub agree : sizesAgree counts (length times) (length freqs) centres ≡ true
   pub small : length times ≤ 4096
-  pub samples : 0 < length times
+  pub few : length counts ≤ 16
   pub enough : least ≤ room
 
-pub taken : (counts : List ℕ) (times : List ℤ) (freqs : List Float) (room least : ℕ) → refusalOf counts times freqs room least ≡ 0 → Taken counts times freqs room least
-unfolding refusalOf
-taken counts times freqs room least e =
-    let s = none-given (timesInRange times) (sizesAgree counts (length times) (length freqs) (length counts)) (ltb (length times) 1) (ltb room least) e in
+pub taken : (counts : List ℕ) (times : List ℤ) (freqs : List Float) (centres room least : ℕ) → probeRefusal counts times freqs centres room least ≡ 0
+    → Taken counts times freqs centres room least
+unfolding probeRefusal
+taken counts times freqs centres room least e =
+    let s = none-given (timesInRange times) (sizesAgree counts (length times) (length freqs) centres) (ltb room least) e in
     record {
       timed = timed (s .0);
       agree = s .1;
-      small = set.sizes (s .1) .small;
-      samples = ltb-false (length times) 1 (s .2);
-      enough = ltb-false room least (s .3);
+      small = laws.sizes (s .1) .small;
+      few = laws.sizes (s .1) .few;
+      enough = ltb-false room least (s .2);
     }
+
+pub set-of : (counts : List ℕ) (times : List ℤ) (freqs centers : List Float) (room least : ℕ) → Taken counts times freqs (length centers) room least → PassSet counts times freqs centers
+set-of counts times freqs centers room least t = record { sizes = laws.sizes (t .agree); timed = t .timed }
+
+-- ---- the first of a list that may be empty
+
+pub first-some : (l : List Float) (d e : Float) → 0 < length l → getD l 0 d ≡ getD l 0 e
+first-some [] d e h = absurd (omega (arith, h))
+first-some (x ∷ l) d e h = refl
+
+pub first-none : (l : List Float) (d : Float) → length l ≡ 0 → d ≡ getD l 0 d
+first-none [] d h = refl
+first-none (x ∷ l) d h = absurd (omega (arith, h))
+
+pub no-epoch : (times : List ℤ) → length times ≡ 0 → instantAt (pos 0) ≡ epochOf times
+no-epoch [] h = refl
+no-epoch (t ∷ ts) h = absurd (omega (arith, h))
+
+-- ---- the search's answers
+
+pub search-refused : (n : ℕ) (f : Found) (table : List Float) → (n ≡ 0 → ⊥) → Searches n f table table (record { refusal = n; raan0 = bits 0; u0 = bits 0; rss = bits 0 })
+search-refused zero f table h = absurd (h refl)
+search-refused (suc n) f table h = record { answer = refl; zeros = refl }
+
+pub found : (n : ℕ) (g f : Found) (table out : List Float) (m : ℕ) → n ≡ 0 → g ≡ f → m ≡ length table → out ≡ replicate m (bits 0)
+    → Searches n f table out (record { refusal = 0; raan0 = g .raan0; u0 = g .u0; rss = g .rss })
+found zero g f table out m h e l z = record { answer = rw e refl; zeros = z ∙ ap (λ (k : ℕ). replicate k (bits 0)) l }
+found (suc n) g f table out m h e l z = absurd (omega (arith, h))
 
 -- ---- samples that are prepared
 
 pub samples-of : (g : Station) (counts times : List ℕ) (freqs turns : List Float) → Accepted counts (length times) (length freqs)
     → Sound (g .epoch .secs) (g .epoch .nanos) → Rotations times turns → Samples g (passesOf counts times freqs) turns
 samples-of g counts times freqs turns a s r =
-    let z = set.sizes (a .agree) in
+    let z = laws.sizes (a .agree) in
     record { epoch = s; few = z .few; small = z .small; whole = z .whole; pairs = z .pairs; turned = r }
 
 pub fits-of : (second : Bool) (g : Station) (counts times : List ℕ) (freqs turns : List Float) (room : ℕ) → Samples g (passesOf counts times freqs) turns
@@ -102,45 +134,64 @@ part-counts ys p = part ys p ∙ p .counts
 
 pub part-taken : {times : List ℤ} {xs : List ℕ} {turns : List Float} (counts : List ℕ) (freqs : ℕ) (ys : List ℕ)
     → sizesAgree counts (length times) freqs (length counts) ≡ true → Prepared times xs turns → Accepted counts (length (take (length times) (xs ++ ys))) freqs
-part-taken counts freqs ys a p = record { agree = rw (part ys p, part-length p) a }
+part-taken {times} {xs} counts freqs ys a p =
+    let e : sizesAgree counts (length (take (length times) (xs ++ ys))) freqs (length counts) ≡ true = rw (part ys p, part-length p) a in
+    let z = laws.sizes e in
+    record { agree = e; few = z .few; small = z .small }
 
 pub part-turned : {times : List ℤ} {xs : List ℕ} {turns : List Float} (ys : List ℕ) → Prepared times xs turns → Rotations (take (length times) (xs ++ ys)) turns
 part-turned ys p = rw (part ys p) (p .rotations)
 
--- ---- answers
+-- ---- a copy
 
-pub told : Sum → Residuals
-told (Value v) = record { refusal = 0; sum = v }
-told (Refused n) = record { refusal = n; sum = bits 0 }
+-- one more number behind those written
+more : (done : List Float) (v : Float) (old out : List Float) (n : ℕ) → length done ≡ n → n < length old → out ≡ done ++ drop n old
+    → set out n v ≡ (done ++ (v ∷ [])) ++ drop (n + 1) old
+more done v old out n size h e =
+    ap (λ (l : List Float). set l n v) (e ∙ ap (done ++_) (drop-cons old n nan h))
+    ∙ set-at done _ (drop (suc n) old) v n size
+    ∙ sym (append-assoc done (v ∷ []) (drop (suc n) old))
+    ∙ ap (λ (k : ℕ). (done ++ (v ∷ [])) ++ drop k old) (sym (add-one n))
 
-pub told-value : (v : Float) → told (Value v) ≡ record { refusal = 0; sum = v }
-unfolding told
-told-value v = refl
+pub put-more : (from old out : List Float) (p : ℕ) → p < length from → p < length old → out ≡ take p from ++ drop p old
+    → set out p (getD from p nan) ≡ take (p + 1) from ++ drop (p + 1) old
+put-more from old out p h k e =
+    more (take p from) _ old out p (length-take-le p from (omega arith)) k e
+    ∙ ap (λ (l : List Float). l ++ drop (p + 1) old) (sym (ap (λ (n : ℕ). take n from) (add-one p) ∙ take-suc from p nan h))
 
-pub told-refused : (n : ℕ) → told (Refused n) ≡ record { refusal = n; sum = bits 0 }
-unfolding told
-told-refused n = refl
+pub put-all : (from old out : List Float) (p : ℕ) → p ≤ length from → length from ≤ p → out ≡ take p from ++ drop p old → out ≡ from ++ drop (length from) old
+put-all from old out p h k e =
+    let same : p ≡ length from = omega arith in
+    rw (same, take-length) at e
 
-told-answer : (w : Option (List Float)) → told (residuals.sumAnswer (each sumOf w)) ≡ sumAnswer w
-unfolding told
-told-answer none = refl
-told-answer (some r) = refl
+pub put-fits : (n m : ℕ) (l : List Float) → n ≤ length l → n ≤ m → length (take n l) ≤ m
+put-fits n m l h k = rw (length-take-le n l h) k
 
-pub sums-told : (w : Option (List Float)) (rows : ℕ) (out xs : List Float) (r : Sum) (q : Residuals) → residuals.Summed (take rows xs) w r → told r ≡ q → Sums 0 w rows out xs q
-sums-told w rows out xs r q s e =
-    record {
-      answer = sym e ∙ ap told (s .answer) ∙ told-answer w;
-      written = λ _. s .written;
-      left = λ h. absurd (h refl);
-    }
+-- ---- the residuals' answers
 
-pub sums-refused : (n : ℕ) (w : Option (List Float)) (rows : ℕ) (out : List Float) → (n ≡ 0 → ⊥) → Sums n w rows out out (record { refusal = n; sum = bits 0 })
-sums-refused zero w rows out h = absurd (h refl)
-sums-refused (suc n) w rows out h = record { answer = refl; written = λ e. absurd (h e); left = λ _. refl }
+-- a sum was given, so that the residuals are there, and they are what was copied
+value-given : (w : Option (List Float)) (xs out out′ : List Float) (v : Float) → residuals.Summed xs w (Value v) → out′ ≡ xs ++ drop (length xs) out
+    → Sums 0 w out out′ (record { refusal = 0; sum = v })
+value-given none xs out out′ v s e = let z : _≡_ {A = ℕ} 0 1 = cc (s .answer) in absurd (omega (arith, z))
+value-given (some r) xs out out′ v s e =
+    let same : xs ≡ r = cc (s .written) in
+    let sum : v ≡ sumOf r = cc (s .answer) in
+    record { answer = rw sum refl; written = rw same at e }
 
-pub tries-refused : (n : ℕ) (new : After) (s : State) → (n ≡ 0 → ⊥) → Tries n new (afterOf s) (record { refusal = n; state = s })
-tries-refused zero new s h = absurd (h refl)
-tries-refused (suc n) new s h = record { answer = refl; state = refl }
+pub sums-given : (w : Option (List Float)) (xs out out′ : List Float) (q : Sum) (v : Float) → residuals.Summed xs w q → q ≡ Value v → out′ ≡ xs ++ drop (length xs) out
+    → Sums 0 w out out′ (record { refusal = 0; sum = v })
+sums-given w xs out out′ q v s h e = value-given w xs out out′ v (subst (residuals.Summed xs w) h s) e
+
+none-given-far : (w : Option (List Float)) (xs out : List Float) (n : ℕ) → residuals.Summed xs w (Refused n) → Sums 0 w out out (record { refusal = n; sum = bits 0 })
+none-given-far none xs out n s = let far : n ≡ 23 = cc (s .answer) in record { answer = rw far refl; written = refl }
+none-given-far (some r) xs out n s = let z : _≡_ {A = ℕ} 0 1 = cc (s .answer) in absurd (omega (arith, z))
+
+pub sums-far : (w : Option (List Float)) (xs out : List Float) (q : Sum) (n : ℕ) → residuals.Summed xs w q → q ≡ Refused n → Sums 0 w out out (record { refusal = n; sum = bits 0 })
+sums-far w xs out q n s h = none-given-far w xs out n (subst (residuals.Summed xs w) h s)
+
+pub sums-refused : (n : ℕ) (w : Option (List Float)) (out : List Float) → (n ≡ 0 → ⊥) → Sums n w out out (record { refusal = n; sum = bits 0 })
+sums-refused zero w out h = absurd (h refl)
+sums-refused (suc n) w out h = record { answer = refl; written = refl }
 
 -- ---- a trial
 
@@ -154,3 +205,28 @@ pub trial-of : (second : Bool) (g : Station) (d : Passes) (s : Search) (t : Turn
     → afterOf (t .state) ≡ trialOf second g d s
 unfolding trialOf
 trial-of second g d s t p q e f w = by-logged _ _ _ s t (t .logged) refl (rw (e, f) at w)
+
+far-zeros : (n : ℕ) (a : After) → (n ≡ 0 → ⊥) → zeroState ≡ stateUnless n a
+far-zeros zero a h = absurd (h refl)
+far-zeros (suc n) a h = refl
+
+pub not-far : (n : ℕ) (a : After) → n ≡ 0 → a ≡ stateUnless n a
+not-far zero a h = refl
+not-far (suc n) a h = absurd (omega (arith, h))
+
+pub tries-refused : (n : ℕ) (a : After) (scratch : List Float) (r : Tried) → (n ≡ 0 → ⊥) → (r .refusal ≡ n) × (afterOf (r .state) ≡ zeroState) → Tries n a scratch scratch r
+tries-refused zero a scratch r h e = absurd (h refl)
+tries-refused (suc n) a scratch r h e = record { answer = e .0; state = e .1; zeros = refl }
+
+module _ (n : ℕ) (a : After) (scratch out : List Float) (m : ℕ) (early : n ≡ 0) (l : m ≡ length scratch) (z : out ≡ replicate m (bits 0)) (k : ℕ) (q : k ≡ endingRefusal (a .ended)) where
+  whole : trialRefusal n a ≡ k
+  whole = rw (early, q) refl
+
+  zeros-of : out ≡ cleared n scratch
+  zeros-of = rw early (z ∙ ap (λ (j : ℕ). replicate j (bits 0)) l)
+
+  pub tries-far : (r : Tried) → (k ≡ 0 → ⊥) → (r .refusal ≡ k) × (afterOf (r .state) ≡ zeroState) → Tries n a scratch out r
+  tries-far r h e = record { answer = e .0 ∙ sym whole; state = e .1 ∙ far-zeros (trialRefusal n a) a (λ w. h (sym whole ∙ w)); zeros = zeros-of }
+
+  pub tries-found : (s : State) → k ≡ 0 → afterOf s ≡ a → Tries n a scratch out (record { refusal = 0; state = s })
+  tries-found s h e = record { answer = sym h ∙ sym whole; state = e ∙ not-far (trialRefusal n a) a (whole ∙ h); zeros = zeros-of }

@@ -3,7 +3,7 @@
 ghost use Prim.Native.Nat.{_≤_};
 use book::Ending;
 use frame::Vec3;
-use refine_call::Tried;
+use probes::Tried;
 use residuals::PARAMS;
 use trials::State;
 
@@ -77,7 +77,7 @@ fn trials_of(
     tries: u64,
     from: State,
 ) -> Tried {
-    let mut scratch = [0.0; refine_call::TABLE];
+    let mut scratch = [0.0; probes::TABLE];
     let mut t = Tried {
         refusal: 0,
         state: from,
@@ -89,7 +89,7 @@ fn trials_of(
         let Ending::Running = e else {
             break;
         };
-        t = refine_call::trial(
+        t = probes::trial(
             second,
             counts,
             times,
@@ -99,6 +99,9 @@ fn trials_of(
             s,
             &mut scratch,
         );
+        if t.refusal != 0 {
+            break;
+        }
         n += 1;
     }
     t
@@ -150,8 +153,8 @@ fn residuals(
     if SAMPLES < times.len() || PASSES < counts.len() {
         return false;
     }
-    let mut out = [0.0; refine_call::ROWS];
-    let r = refine_call::residuals_of(
+    let mut out = [0.0; probes::ROWS];
+    let r = probes::residuals_of(
         second,
         counts,
         times,

@@ -1,8 +1,8 @@
 -- `prepare` meets its contract. Assumes nothing.
-use Rattle.refine_call.proofs.Calls.{counted, counted-dated}
+use Rattle.probes.proofs.Calls.{counted, counted-dated}
 use borrow.Author.Needs.{needs}
-use Rattle.refine_call.proofs.prepare.Statement.{statement}
-use Rattle.refine_call.proofs.prepare.Tie as tie
+use Rattle.probes.proofs.prepare.Statement.{statement}
+use Rattle.probes.proofs.prepare.Tie as tie
 
 counts-at-requires : tie.Need-counts-at-requires
 counts-at-requires c κs = search needs

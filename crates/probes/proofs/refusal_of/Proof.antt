@@ -1,16 +1,16 @@
 -- `refusal_of` meets its contract. Assumes nothing.
 use borrow.Author.Needs.{needs}
 use borrow.Author.Tests.{not-true, not-false, lt-ltb, le-ltb}
-use Rattle.refine_call.specs.Call.{refusalOf}
-use Rattle.refine_call.proofs.refusal_of.Statement.{statement}
-use Rattle.refine_call.proofs.refusal_of.Tie as tie
+use Rattle.probes.specs.Call.{probeRefusal}
+use Rattle.probes.proofs.refusal_of.Statement.{statement}
+use Rattle.probes.proofs.refusal_of.Tie as tie
 
 returns : tie.Need-returns
-unfolding refusalOf
+unfolding probeRefusal
 returns c = simp (← c .before .all-in-range .ensures, not-true (c .before .all-in-range .result) (c .if1 .taken))
 
 returns-2 : tie.Need-returns-2
-unfolding refusalOf
+unfolding probeRefusal
 returns-2 c =
     let s = c .before in
     let a = s .before .before in
@@ -22,7 +22,7 @@ returns-2 c =
     )
 
 returns-3 : tie.Need-returns-3
-unfolding refusalOf
+unfolding probeRefusal
 returns-3 c =
     let s = c .before .before in
     let a = s .before .before in
@@ -35,34 +35,19 @@ returns-3 c =
     )
 
 returns-4 : tie.Need-returns-4
-unfolding refusalOf
+unfolding probeRefusal
 returns-4 c =
-    let s = c .before .before .before in
+    let s = c .before .before in
     let a = s .before .before in
     simp (
       ← a .all-in-range .ensures,
       not-false (a .all-in-range .result) (s .before .if1 .left),
       ← s .sizes-agree .ensures,
-      not-false (s .sizes-agree .result) (c .before .before .if2 .left),
-      le-ltb _ _ (c .before .if3 .left),
-      lt-ltb _ _ (c .if4 .taken),
-    )
-
-returns-5 : tie.Need-returns-5
-unfolding refusalOf
-returns-5 c =
-    let s = c .before .before .before in
-    let a = s .before .before in
-    simp (
-      ← a .all-in-range .ensures,
-      not-false (a .all-in-range .result) (s .before .if1 .left),
-      ← s .sizes-agree .ensures,
-      not-false (s .sizes-agree .result) (c .before .before .if2 .left),
-      le-ltb _ _ (c .before .if3 .left),
-      le-ltb _ _ (c .if4 .left),
+      not-false (s .sizes-agree .result) (c .before .if2 .left),
+      le-ltb _ _ (c .if3 .left),
     )
 
 pub refusal-of-spec : {M : Type 1} → statement M
 refusal-of-spec =
     tie.close
-    (tie.spec (λ c κs. search needs) returns (λ c κs. search needs) returns-2 returns-3 returns-4 returns-5)
+    (tie.spec (λ c κs. search needs) returns (λ c κs. search needs) returns-2 returns-3 returns-4)

@@ -1,18 +1,18 @@
 -- `residuals_of` meets its contract. Assumes nothing.
 use mathlib.Core.Path.{sym, _∙_}
-use Rattle.refine_call.proofs.Calls.{taken, sums-refused}
+use Rattle.probes.proofs.Calls.{taken, sums-refused}
 use borrow.Author.Needs.{needs}
-use Rattle.refine_call.proofs.residuals_of.Statement.{statement}
-use Rattle.refine_call.proofs.residuals_of.Tie as tie
+use Rattle.probes.proofs.residuals_of.Statement.{statement}
+use Rattle.probes.proofs.residuals_of.Tie as tie
 
 refusal-of-requires : tie.Need-refusal-of-requires
 refusal-of-requires c κs = search needs
 
 returns : tie.Need-returns
-returns c = rw (← c .before .refusal-of .ensures) (sums-refused _ _ _ _ (c .if1 .taken))
+returns c = rw (← c .before .refusal-of .ensures) (sums-refused _ _ _ (c .if1 .taken))
 
 station-requires : tie.Need-station-requires
-station-requires c κs = let ok = taken _ _ _ _ _ (sym (c .before .refusal-of .ensures) ∙ c .if1 .left) in (ok .timed, ok .samples)
+station-requires c κs = taken _ _ _ _ _ _ (sym (c .before .refusal-of .ensures) ∙ c .if1 .left) .timed
 
 slice-aggregate-sum-in : tie.Need-slice-aggregate-sum-in
 slice-aggregate-sum-in c = search needs
@@ -23,7 +23,7 @@ slice-aggregate-sum-in-2 c = search needs
 sum-in-requires : tie.Need-sum-in-requires
 sum-in-requires c κs =
     let e = c .before .before .before .before in
-    let ok = taken _ _ _ _ _ (sym (e .before .refusal-of .ensures) ∙ e .if1 .left) in (
+    let ok = taken _ _ _ _ _ _ (sym (e .before .refusal-of .ensures) ∙ e .if1 .left) in (
       record { timed = ok .timed; agree = ok .agree; small = ok .small; places = search needs; pairs = search needs },
       c .before .before .before .station .ensures .1,
       ok .enough,

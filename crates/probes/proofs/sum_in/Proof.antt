@@ -3,11 +3,10 @@ use mathlib.Core.Path.{sym, ap, _∙_}
 use native.Mathlib.Omega.{arith}
 use lib.ListN.{length}
 use lib.Seq.{length-take-le}
-use Rattle.residuals.proofs.Samples.{counts-length}
-use Rattle.refine_call.proofs.Calls.{part, part-length, part-counts, part-taken, part-turned}
+use Rattle.probes.proofs.Calls.{part, part-length, part-counts, part-taken, part-turned}
 use borrow.Author.Needs.{needs}
-use Rattle.refine_call.proofs.sum_in.Statement.{statement}
-use Rattle.refine_call.proofs.sum_in.Tie as tie
+use Rattle.probes.proofs.sum_in.Statement.{statement}
+use Rattle.probes.proofs.sum_in.Tie as tie
 
 slice-relend-prefix-prepare : tie.Need-slice-relend-prefix-prepare
 slice-relend-prefix-prepare c = search needs
@@ -41,7 +40,7 @@ same-length-3 : tie.Need-same-length-3
 same-length-3 c = search needs
 
 returns : tie.Need-returns
-returns c = rw (part-counts _ (c .before .before .before .before .before .before .before .before .before .before .prepare .ensures), counts-length _) at (c .before .before .sum-of .ensures)
+returns c = rw (part-counts _ (c .before .before .before .before .before .before .before .before .before .before .prepare .ensures)) at (c .before .before .sum-of .ensures)
 
 pub sum-in-spec : {M : Type 1} → statement M
 sum-in-spec =

@@ -1,9 +1,9 @@
 -- `turned` meets its contract. Assumes nothing.
 use Rattle.pass_set.proofs.Laws as set
-use Rattle.refine_call.proofs.Calls.{samples-of, fits-of, trial-of}
+use Rattle.probes.proofs.Calls.{samples-of, fits-of, trial-of}
 use borrow.Author.Needs.{needs}
-use Rattle.refine_call.proofs.turned.Statement.{statement}
-use Rattle.refine_call.proofs.turned.Tie as tie
+use Rattle.probes.proofs.turned.Statement.{statement}
+use Rattle.probes.proofs.turned.Tie as tie
 
 place-of-requires : tie.Need-place-of-requires
 place-of-requires c κs = set.sizes (c .before .before .before .before .before .pre .0 .agree) .few

@@ -3,10 +3,10 @@ use mathlib.Core.Path.{sym, ap, _∙_}
 use native.Mathlib.Omega.{arith}
 use lib.ListN.{length}
 use lib.Seq.{length-take-le}
-use Rattle.refine_call.proofs.Calls.{part, part-length, part-counts, part-taken, part-turned}
+use Rattle.probes.proofs.Calls.{part, part-length, part-counts, part-taken, part-turned}
 use borrow.Author.Needs.{needs}
-use Rattle.refine_call.proofs.turned_in.Statement.{statement}
-use Rattle.refine_call.proofs.turned_in.Tie as tie
+use Rattle.probes.proofs.turned_in.Statement.{statement}
+use Rattle.probes.proofs.turned_in.Tie as tie
 
 slice-relend-prefix-prepare : tie.Need-slice-relend-prefix-prepare
 slice-relend-prefix-prepare c = search needs
