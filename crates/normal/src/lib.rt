@@ -31,10 +31,9 @@ ghost use Rattle.normal.specs.Step.{
   stepOf,
 };
 ghost use Rattle.normal.specs.Answers.{outcome, outcomeOf};
+use residuals::PARAMS;
 
-// Parameters of 16 passes, and places of their elimination.
-const PARAMS: usize = 68;
-
+// Places of the elimination of so many parameters.
 const ROOM: usize = 4692;
 
 // Where row r, column c of a flat matrix of `rows` rows and n columns is.

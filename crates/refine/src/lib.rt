@@ -13,12 +13,9 @@ ghost use Rattle.refine.specs.Jacobian.{biasEps, epsOf, perturbedOf, put
 ghost use Rattle.refine.specs.Advance.{advanceOf, cellsOf, Ready, Advances};
 use normal::Step;
 use normal::Stepped;
+use residuals::PARAMS;
+use residuals::ROWS;
 use residuals::Station;
-
-// Parameters of 16 passes, and rows of 4,096 samples in them.
-const PARAMS: usize = 68;
-
-const ROWS: usize = 4144;
 
 fn bias_eps(j: usize) -> f64
     ensures { λ r. ⌜ r ≡ biasEps j ⌝ }

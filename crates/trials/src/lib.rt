@@ -14,13 +14,10 @@ ghost use Rattle.book.specs.Book.{openBook, judged, arrival, onward, book};
 ghost use Rattle.trials.specs.Trials.{stateSearch, stateAfter, Fits, Tries, Held, Arrives, Follows, Runs};
 use book::Ending;
 use normal::Step;
+use residuals::PARAMS;
+use residuals::ROWS;
 use residuals::Station;
 use residuals::Sum;
-
-// Parameters of 16 passes, and rows of 4,096 samples in them.
-const PARAMS: usize = 68;
-
-const ROWS: usize = 4144;
 
 // The set to try next, the best sum with its set, the damping, and whether the refinement has ended.
 pub struct State {
