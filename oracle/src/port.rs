@@ -632,7 +632,6 @@ fn trial(second_one: bool, s: &Set, rec: [f64; 3], from: &State) -> Answer<(Stat
     match ended.written(1)[0] {
         // The original's first refinement just ends; its second is an error, which the fit's own 10 has come before.
         2 if second_one => Err(10),
-        1 => panic!("an ending that is refusal 23"),
         end => Ok((after, end == 0)),
     }
 }

@@ -1,6 +1,6 @@
 -- What a call that is not refused knows, and what its parts give it. Assumes nothing.
 use mathlib.Core.Path.{_≡_, refl, sym, ap, subst, _∙_}
-use mathlib.Core.Bool.{Bool, true, false, not}
+use mathlib.Core.Bool.{Bool, true, false, not, true≢false}
 use mathlib.Core.List.{List, [], _∷_, _++_, append-assoc}
 use mathlib.Core.Option.{Option, none, some}
 use Prim.Native.Nat.{ℕ, zero, suc, _+_, _*_, _≤_, _<_}
@@ -12,7 +12,7 @@ use lib.IntN.{ℤ, pos}
 use lib.ListN.{length, getD, set, take, drop, replicate}
 use lib.Seq.{take-all, take-at, take-suc, take-length, drop-cons, set-at, length-take-le}
 use lib.Ieee.{Float, nan}
-use borrow.Author.Tests.{ltb-false}
+use borrow.Author.Tests.{ltb-false, ne-eqb}
 use Rattle.refusal.specs.Numbers.{moment-range, sizes, short-memory}
 use Rattle.refusal.specs.Order.{_if_, first}
 use Rattle.moment.specs.Sample.{timesInRange, Timed, instantAt}
@@ -24,19 +24,25 @@ use Rattle.approach.specs.Turns.{PassSet}
 use Rattle.float.specs.Ops.{bits}
 use Rattle.search.specs.declared.Found.{Found}
 use Rattle.residuals.specs.Samples.{Passes, countsAt, passesOf, Dated, Rotations, Samples}
-use Rattle.residuals.specs.Residuals.{placeOf, rowsOf, penalisedSum, sumOf}
+use Rattle.residuals.specs.Residuals.{placeOf, rowsOf, penalisedSum, each, sumOf}
 use Rattle.residuals.specs.Answers as residuals
+use Rattle.residuals.specs.Residuals as residuals-of
 use Rattle.residuals.specs.declared.Station.{Station}
 use Rattle.residuals.specs.declared.Sum.{Sum}
 use Rattle.residuals.specs.declared.Sum.the-variants.{Value, Refused}
 use Rattle.residuals.proofs.Samples.{counts-length, counts-dated}
 use Rattle.normal.specs.Step.{Outcome}
-use Rattle.book.specs.Book.{Search, After}
+use Rattle.refine.specs.Advance.{advanceOf}
+use Rattle.book.specs.Book.{Search, After, Book, compared, arrival, onward, noted, trial, following, turn, whileRunning}
+use Rattle.book.specs.declared.Ending.{Ending}
+use Rattle.book.specs.declared.Ending.the-variants.{Running, Refused as RefusedEnd, Short, Damped, Converged}
 use Rattle.refine.proofs.Advances.{places-few, rows-fit}
-use Rattle.trials.specs.Trials.{Fits, Turns, stepOf, afterOf}
+use Rattle.trials.specs.Trials.{Fits, stateSearch, stateAfter, rowsIn, below}
+use Rattle.trials.specs.Trials as trials
 use Rattle.trials.specs.declared.State.{State}
-use Rattle.trials.specs.declared.Turned.{Turned}
-use Rattle.probes.specs.Call.{probeRefusal, cleared, epochOf, Searches, Accepted, Prepared, Sums, tried, trialOf, trialRefusal, zeroState, endingRefusal, stateUnless, Tries}
+use Rattle.trials.specs.declared.Tried as trials-tried
+use Rattle.trials.proofs.Laws.{kept-set}
+use Rattle.probes.specs.Call.{probeRefusal, cleared, epochOf, Searches, Accepted, Prepared, Sums, bookWith, bookAfter, enoughOf, trialOf, isRunning, trialRefusal, zeroState, endingRefusal, stateUnless, Tries}
 use Rattle.probes.specs.declared.Tried.{Tried}
 
 -- ---- no refusal before the work
@@ -195,16 +201,81 @@ sums-refused (suc n) w out h = record { answer = refl; written = refl }
 
 -- ---- a trial
 
-by-logged : (sum : List Float → Option Float) (step : Float → List Float → Outcome) (enough : Bool) (s : Search) (t : Turned) (b : Bool) → t .logged ≡ b
-    → Turns sum step enough s t → afterOf (t .state) ≡ tried step enough s (sum (s .next))
-by-logged sum step enough s t true e w = let p = w .tried e in p .1 ∙ ap (tried step enough s) (sym (p .0))
-by-logged sum step enough s t false e w = let p = w .far e in p .1 ∙ ap (tried step enough s) (sym (p .0))
+-- the residuals of a set that was kept are those that its trial left
+held-from : (w : Option (List Float)) (s : Search) (xs : List Float) (q : Sum) (k : Bool) (t : State) → residuals.Summed xs w q → k ≡ below (each sumOf w) (s .best)
+    → stateAfter t ≡ compared (each sumOf w) s → k ≡ true → (some xs ≡ w) × (t .params ≡ s .next)
+held-from none s xs q k t u b a h = let z : true ≡ false = sym h ∙ b in absurd (true≢false z)
+held-from (some r) s xs q k t u b a h = (u .written, kept-set s (sumOf r) t a (sym b ∙ h))
 
-pub trial-of : (second : Bool) (g : Station) (d : Passes) (s : Search) (t : Turned) (p q : ℕ) → p ≡ placeOf second (length (d .counts))
-    → q ≡ rowsOf second (length (d .times)) (length (d .counts)) → Turns (penalisedSum second g d) (stepOf second g d) (leb p q) s t
-    → afterOf (t .state) ≡ trialOf second g d s
-unfolding trialOf
-trial-of second g d s t p q e f w = by-logged _ _ _ s t (t .logged) refl (rw (e, f) at w)
+pub held-of : (second : Bool) (g : Station) (d : Passes) (s : Search) (r : List Float) (t : trials-tried.Tried) → trials.Tries second g d s r t → t .kept ≡ true
+    → some (take (rowsIn second d) r) ≡ residuals-of.residuals second g d (t .state .params)
+unfolding penalisedSum
+held-of second g d s r t w k =
+    let h = held-from (residuals-of.residuals second g d (s .next)) s (take (rowsIn second d) r) (t .sum) (t .kept) (t .state) (w .summed) (w .kept) (w .after) k in
+    rw (h .1) (h .0)
+
+module _ (sum : List Float → Option Float) (step : Float → List Float → Outcome) (enough : Bool) where
+  -- what follows the first half of a turn
+  abbrev then-of : After → After
+  then-of a = whileRunning (a .ended) (arrival (a .search) (onward sum step enough (a .search))) a
+
+  second-half : (b : Book) → bookAfter (following sum step enough b) ≡ then-of (bookAfter b)
+  unfolding following
+  second-half b = go (b .ended) refl
+    where
+      go : (e : Ending) → b .ended ≡ e → bookAfter (following sum step enough b) ≡ then-of (bookAfter b)
+      go Running h = rw h
+      go (RefusedEnd k) h = rw h
+      go Short h = rw h
+      go Damped h = rw h
+      go Converged h = rw h
+
+  noted-after : (o : Option Float) (s : Search) → bookAfter (noted o (bookWith s)) ≡ compared o s
+  noted-after none s = refl
+  noted-after (some v) s = refl
+
+  first-half : (s : Search) → bookAfter (trial sum step enough (bookWith s)) ≡ compared (sum (s .next)) s
+  unfolding trial
+  first-half s = noted-after (sum (s .next)) s
+
+  turned-to : (s : Search) → bookAfter (turn sum step enough (bookWith s)) ≡ then-of (compared (sum (s .next)) s)
+  unfolding turn
+  turned-to s = second-half (trial sum step enough (bookWith s)) ∙ ap then-of (first-half s)
+
+  stays : (a : After) (e : Ending) → a .ended ≡ e → isRunning e ≡ false → then-of a ≡ a
+  stays a Running h n = absurd (true≢false n)
+  stays a (RefusedEnd k) h n = rw h
+  stays a Short h n = rw h
+  stays a Damped h n = rw h
+  stays a Converged h n = rw h
+
+  goes : (a : After) (e : Ending) → a .ended ≡ e → isRunning e ≡ true → then-of a ≡ arrival (a .search) (onward sum step enough (a .search))
+  goes a Running h n = rw h
+  goes a (RefusedEnd k) h n = absurd (true≢false (sym n))
+  goes a Short h n = absurd (true≢false (sym n))
+  goes a Damped h n = absurd (true≢false (sym n))
+  goes a Converged h n = absurd (true≢false (sym n))
+
+  ended-so : (s : Search) (t : State) → stateAfter t ≡ compared (sum (s .next)) s → isRunning (t .ended) ≡ false
+      → stateAfter t ≡ bookAfter (turn sum step enough (bookWith s))
+  ended-so s t a n = sym (stays (stateAfter t) (t .ended) refl n) ∙ ap then-of a ∙ sym (turned-to s)
+
+  gone-on : (s : Search) (t u : State) → stateAfter t ≡ compared (sum (s .next)) s → isRunning (t .ended) ≡ true
+      → stateAfter u ≡ arrival (stateSearch t) (onward sum step enough (stateSearch t)) → stateAfter u ≡ bookAfter (turn sum step enough (bookWith s))
+  gone-on s t u a n f = f ∙ sym (goes (stateAfter t) (t .ended) refl n) ∙ ap then-of a ∙ sym (turned-to s)
+
+module _ (second : Bool) (g : Station) (d : Passes) (s : Search) (t : State) (a : stateAfter t ≡ compared (penalisedSum second g d (s .next)) s) where
+  pub trial-ended : isRunning (t .ended) ≡ false → stateAfter t ≡ trialOf second g d s
+  unfolding trialOf
+  trial-ended n = ended-so (penalisedSum second g d) (advanceOf second g d) (enoughOf second d) s t a n
+
+  pub trial-followed : (u : State) (p q : ℕ) → p ≡ placeOf second (length (d .counts)) → q ≡ rowsOf second (length (d .times)) (length (d .counts)) → isRunning (t .ended) ≡ true
+      → stateAfter u ≡ arrival (stateSearch t) (onward (penalisedSum second g d) (advanceOf second g d) (leb p q) (stateSearch t)) → stateAfter u ≡ trialOf second g d s
+  unfolding trialOf
+  trial-followed u p q e f n h = gone-on (penalisedSum second g d) (advanceOf second g d) (enoughOf second d) s t u a n (rw (e, f) at h)
+
+pub not-far-ended : (e : Ending) (k : ℕ) → e ≡ RefusedEnd k → (k ≡ 23 → ⊥) → 0 ≡ endingRefusal e
+not-far-ended e k h n = rw (h, ne-eqb k 23 n)
 
 far-zeros : (n : ℕ) (a : After) → (n ≡ 0 → ⊥) → zeroState ≡ stateUnless n a
 far-zeros zero a h = absurd (h refl)
@@ -214,7 +285,7 @@ pub not-far : (n : ℕ) (a : After) → n ≡ 0 → a ≡ stateUnless n a
 not-far zero a h = refl
 not-far (suc n) a h = absurd (omega (arith, h))
 
-pub tries-refused : (n : ℕ) (a : After) (scratch : List Float) (r : Tried) → (n ≡ 0 → ⊥) → (r .refusal ≡ n) × (afterOf (r .state) ≡ zeroState) → Tries n a scratch scratch r
+pub tries-refused : (n : ℕ) (a : After) (scratch : List Float) (r : Tried) → (n ≡ 0 → ⊥) → (r .refusal ≡ n) × (stateAfter (r .state) ≡ zeroState) → Tries n a scratch scratch r
 tries-refused zero a scratch r h e = absurd (h refl)
 tries-refused (suc n) a scratch r h e = record { answer = e .0; state = e .1; zeros = refl }
 
@@ -225,8 +296,8 @@ module _ (n : ℕ) (a : After) (scratch out : List Float) (m : ℕ) (early : n �
   zeros-of : out ≡ cleared n scratch
   zeros-of = rw early (z ∙ ap (λ (j : ℕ). replicate j (bits 0)) l)
 
-  pub tries-far : (r : Tried) → (k ≡ 0 → ⊥) → (r .refusal ≡ k) × (afterOf (r .state) ≡ zeroState) → Tries n a scratch out r
+  pub tries-far : (r : Tried) → (k ≡ 0 → ⊥) → (r .refusal ≡ k) × (stateAfter (r .state) ≡ zeroState) → Tries n a scratch out r
   tries-far r h e = record { answer = e .0 ∙ sym whole; state = e .1 ∙ far-zeros (trialRefusal n a) a (λ w. h (sym whole ∙ w)); zeros = zeros-of }
 
-  pub tries-found : (s : State) → k ≡ 0 → afterOf s ≡ a → Tries n a scratch out (record { refusal = 0; state = s })
+  pub tries-found : (s : State) → k ≡ 0 → stateAfter s ≡ a → Tries n a scratch out (record { refusal = 0; state = s })
   tries-found s h e = record { answer = sym h ∙ sym whole; state = e ∙ not-far (trialRefusal n a) a (whole ∙ h); zeros = zeros-of }

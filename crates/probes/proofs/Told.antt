@@ -7,7 +7,7 @@ use native.Mathlib.Omega.{arith}
 use lib.Ieee.{Float}
 use Rattle.search.specs.declared.Found.{Found}
 use Rattle.book.specs.Book.{Search, After}
-use Rattle.trials.specs.Trials.{searchOf, afterOf}
+use Rattle.trials.specs.Trials.{stateSearch, stateAfter}
 use Rattle.probes.specs.Call.{Searches, Sums, residualsAnswer, Tries, trialRefusal}
 use Rattle.probes.specs.Exported.{unless, SearchesTo, SumsTo, endingNumber, TriesTo}
 use Rattle.probes.specs.declared.Searched.{Searched}
@@ -48,10 +48,10 @@ module _ (k : ℕ) (a : After) (scratch scratch′ : List Float) (s : Search) (e
       let no : trialRefusal k a ≡ 0 → ⊥ = λ z. h (t .answer ∙ z) in
       record { answer = t .answer; state = kept _ _ _ no; reason = kept _ _ _ no; zeros = t .zeros }
 
-  pub tries-put : (e : ℕ) → r .refusal ≡ 0 → e ≡ endingNumber (r .state .ended) → TriesTo k a scratch scratch′ s (searchOf (r .state)) ended e 0
+  pub tries-put : (e : ℕ) → r .refusal ≡ 0 → e ≡ endingNumber (r .state .ended) → TriesTo k a scratch scratch′ s (stateSearch (r .state)) ended e 0
   tries-put e h n =
       let z : trialRefusal k a ≡ 0 = sym (t .answer) ∙ h in
-      let led : afterOf (r .state) ≡ a = t .state ∙ sym (not-far (trialRefusal k a) a z) in
+      let led : stateAfter (r .state) ≡ a = t .state ∙ sym (not-far (trialRefusal k a) a z) in
       record {
         answer = sym z;
         state = put _ _ _ _ z (ap (λ (b : After). b .search) led);

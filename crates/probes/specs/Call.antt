@@ -1,11 +1,11 @@
 -- What the search over all starts, the residuals and a single trial give as calls of their own, and what they leave in lent memory.
 -- They serve the comparison with the original, and take any input: a set without samples is one whose sums have no terms.
 use mathlib.Core.Path.{_≡_}
-use mathlib.Core.Bool.{Bool, true, not}
+use mathlib.Core.Bool.{Bool, true, false, not, cond}
 use mathlib.Core.List.{List, [], _∷_, _++_}
 use mathlib.Core.Option.{Option, none, some}
 use Prim.Native.Nat.{ℕ, zero, suc, _≤_}
-use lib.Dec.{leb, ltb}
+use lib.Dec.{leb, ltb, eqb}
 use lib.IntN.{ℤ, pos}
 use lib.ListN.{length, getD, drop, replicate}
 use lib.Ieee.{Float}
@@ -21,11 +21,11 @@ use Rattle.search.specs.declared.Found.{Found}
 use Rattle.residuals.specs.Samples.{Passes, countsAt, passesOf, Rotations}
 use Rattle.residuals.specs.Residuals.{placeOf, rowsOf, penalisedSum, sumOf}
 use Rattle.residuals.specs.declared.Station.{Station}
-use Rattle.normal.specs.Step.{Outcome}
-use Rattle.book.specs.Book.{Search, After, judged, followed}
+use Rattle.refine.specs.Advance.{advanceOf}
+use Rattle.book.specs.Book.{Search, After, Book, turn}
 use Rattle.book.specs.declared.Ending.{Ending}
-use Rattle.book.specs.declared.Ending.the-variants.{Running, TooFar, Short, Damped, NoPivot, Converged}
-use Rattle.trials.specs.Trials.{stepOf, afterOf}
+use Rattle.book.specs.declared.Ending.the-variants.{Running, Refused, Short, Damped, Converged}
+use Rattle.trials.specs.Trials.{stateAfter}
 use Rattle.probes.specs.declared.Searched.{Searched}
 use Rattle.probes.specs.declared.Residuals.{Residuals}
 use Rattle.probes.specs.declared.Tried.{Tried}
@@ -102,21 +102,30 @@ pub record Sums (k : ℕ) (w : Option (List Float)) (out out′ : List Float) (r
 abbrev pub enoughOf : Bool → Passes → Bool
 enoughOf second d = leb (placeOf second (length (d .counts))) (rowsOf second (length (d .times)) (length (d .counts)))
 
--- no trial where the set is refused, else one of its sum
-abbrev pub tried : (Float → List Float → Outcome) → Bool → Search → Option Float → After
-tried step enough s none = record { search = s; ended = TooFar }
-tried step enough s (some v) = followed step enough (judged v s)
+-- a book of nothing but this search
+abbrev pub bookWith : Search → Book
+bookWith s = record { count = 0; log = []; tried = []; kept = []; search = s; ended = Running }
 
+abbrev pub bookAfter : Book → After
+bookAfter b = record { search = b .search; ended = b .ended }
+
+-- where one turn of the trial book leads the search s
 unfoldable pub trialOf : Bool → Station → Passes → Search → After
-trialOf second g d s = tried (stepOf second g d) (enoughOf second d) s (penalisedSum second g d (s .next))
+trialOf second g d s = bookAfter (turn (penalisedSum second g d) (advanceOf second g d) (enoughOf second d) (bookWith s))
 
--- 23 where a moment was too far; every other ending is an answer
+abbrev pub isRunning : Ending → Bool
+isRunning Running = true
+isRunning (Refused k) = false
+isRunning Short = false
+isRunning Damped = false
+isRunning Converged = false
+
+-- 23 where a moment was too far; every other ending, the solver's 22 among them, is an answer
 abbrev pub endingRefusal : Ending → ℕ
 endingRefusal Running = 0
-endingRefusal TooFar = far-moment
+endingRefusal (Refused k) = cond (eqb k far-moment) far-moment 0
 endingRefusal Short = 0
 endingRefusal Damped = 0
-endingRefusal NoPivot = 0
 endingRefusal Converged = 0
 
 abbrev pub trialRefusal : ℕ → After → ℕ
@@ -138,7 +147,7 @@ stateUnless (suc k) a = zeroState
 -- with refusal k before any work, or 0, and a what the trial leads to
 pub record Tries (k : ℕ) (a : After) (scratch scratch′ : List Float) (r : Tried) : Type 0 where
   pub answer : r .refusal ≡ trialRefusal k a
-  pub state : afterOf (r .state) ≡ stateUnless (trialRefusal k a) a
+  pub state : stateAfter (r .state) ≡ stateUnless (trialRefusal k a) a
   pub zeros : scratch′ ≡ cleared k scratch
 
 -- ---- what no refusal says, as facts

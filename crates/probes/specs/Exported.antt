@@ -8,7 +8,7 @@ use Rattle.frame.specs.declared.Vec3.{Vec3}
 use Rattle.search.specs.declared.Found.{Found}
 use Rattle.book.specs.Book.{Search, After}
 use Rattle.book.specs.declared.Ending.{Ending}
-use Rattle.book.specs.declared.Ending.the-variants.{Running, TooFar, Short, Damped, NoPivot, Converged}
+use Rattle.book.specs.declared.Ending.the-variants.{Running, Refused, Short, Damped, Converged}
 use Rattle.probes.specs.Call.{cleared, residualsAnswer, residualsOut, trialRefusal}
 
 abbrev pub place : Float → Float → Float → Vec3
@@ -35,13 +35,12 @@ pub record SumsTo (k : ℕ) (w : Option (List Float)) (out out′ : List Float) 
 abbrev pub searchAt : (params best : List Float) → (damping sum : Float) → Search
 searchAt params best damping sum = record { next = params; bestSet = best; damping = damping; best = sum }
 
--- why a refinement ended, 0 where it goes on; 1 is never written, being refusal 23
+-- why a refinement ended, 0 where it goes on; a refusal that ends it is the solver's
 abbrev pub endingNumber : Ending → ℕ
 endingNumber Running = 0
-endingNumber TooFar = 1
 endingNumber Short = 2
 endingNumber Damped = 3
-endingNumber NoPivot = 4
+endingNumber (Refused k) = 4
 endingNumber Converged = 5
 
 pub record TriesTo (k : ℕ) (a : After) (scratch scratch′ : List Float) (s s′ : Search) (ended ended′ r : ℕ) : Type 0 where

@@ -79,10 +79,9 @@ fn ending_number(e: Ending) -> u32
 {
     match e {
         Ending::Running => 0,
-        Ending::TooFar => 1,
         Ending::Short => 2,
         Ending::Damped => 3,
-        Ending::NoPivot => 4,
+        Ending::Refused(_) => 4,
         Ending::Converged => 5,
     }
 }

@@ -16,7 +16,7 @@ ghost use Rattle.search.specs.Sum as sums;
 ghost use Rattle.search.specs.Search as starts;
 ghost use Rattle.residuals.specs.Samples.{passesOf, Rotations};
 ghost use Rattle.residuals.specs.Residuals.{residuals};
-ghost use Rattle.trials.specs.Trials.{searchOf, afterOf};
+ghost use Rattle.trials.specs.Trials.{stateSearch, stateAfter};
 ghost use Rattle.probes.specs.Call.{
   probeRefusal,
   epochOf,
@@ -26,6 +26,7 @@ ghost use Rattle.probes.specs.Call.{
   samplesOf,
   Sums,
   trialOf,
+  isRunning,
   endingRefusal,
   zeroState,
   Tries,
@@ -289,7 +290,19 @@ pub fn residuals_of(
 
 // ---- a trial
 
-// One trial of a state whose samples are prepared.
+fn running(e: Ending) -> bool
+    ensures { λ r. ⌜ r ≡ isRunning e ⌝ }
+{
+    match e {
+        Ending::Running => true,
+        Ending::Refused(_) => false,
+        Ending::Short => false,
+        Ending::Damped => false,
+        Ending::Converged => false,
+    }
+}
+
+// One trial and what follows it, of a state whose samples are prepared.
 fn turned(
     second: bool,
     counts: &[u32],
@@ -301,12 +314,31 @@ fn turned(
     scratch: &mut [f64],
 ) -> State
     requires { ⌜ Accepted (now counts) (length (now times)) (length (now freqs)) × Sound (g .epoch .secs) (g .epoch .nanos) × Rotations (now times) (now turns) × (281792 ≤ length (now scratch)) ⌝ }
-    ensures { λ r. ⌜ afterOf r ≡ trialOf second g (passesOf (now (counts .entry)) (now (times .entry)) (now (freqs .entry))) (searchOf s) ⌝ }
+    ensures { λ r. ⌜ stateAfter r ≡ trialOf second g (passesOf (now (counts .entry)) (now (times .entry)) (now (freqs .entry))) (stateSearch s) ⌝ }
 {
     let enough = residuals::place_of(second, counts.len())
         <= residuals::rows_of(second, times.len(), counts.len());
-    let t = trials::turn(second, enough, counts, times, freqs, turns, g, s, scratch);
-    t.state
+    let mut r = [0.0; ROWS];
+    let t = trials::trial(second, counts, times, freqs, turns, g, s, &mut r);
+    let after = t.state;
+    let e = after.ended;
+    if !running(e) {
+        return after;
+    }
+    let f = trials::follow(
+        second,
+        enough,
+        t.kept,
+        counts,
+        times,
+        freqs,
+        turns,
+        g,
+        after,
+        &mut r,
+        scratch,
+    );
+    f.state
 }
 
 // The same, with room for the samples' counts and rotations.
@@ -322,7 +354,7 @@ fn turned_in(
     scratch: &mut [f64],
 ) -> State
     requires { ⌜ Lent (now counts) (now times) (length (now freqs)) (length (now room)) (length (now turns)) × Sound (g .epoch .secs) (g .epoch .nanos) × (281792 ≤ length (now scratch)) ⌝ }
-    ensures { λ r. ⌜ afterOf r ≡ trialOf second g (samplesOf (now (counts .entry)) (now (times .entry)) (now (freqs .entry))) (searchOf s) ⌝ }
+    ensures { λ r. ⌜ stateAfter r ≡ trialOf second g (samplesOf (now (counts .entry)) (now (times .entry)) (now (freqs .entry))) (stateSearch s) ⌝ }
 {
     let n = times.len();
     prepare(times, &mut room[..n], turns);
@@ -333,18 +365,23 @@ fn ending_refusal(e: Ending) -> u32
     ensures { λ r. ⌜ r ≡ endingRefusal e ⌝ }
 {
     match e {
-        Ending::TooFar => refusal::FAR_MOMENT,
+        Ending::Refused(number) => {
+            if number == refusal::FAR_MOMENT {
+                refusal::FAR_MOMENT
+            } else {
+                0
+            }
+        }
         Ending::Running => 0,
         Ending::Short => 0,
         Ending::Damped => 0,
-        Ending::NoPivot => 0,
         Ending::Converged => 0,
     }
 }
 
 // A refusal's number, and a state of zeros.
 fn refused(refusal: u32) -> Tried
-    ensures { λ r. ⌜ (r .refusal ≡ refusal) × (afterOf (r .state) ≡ zeroState) ⌝ }
+    ensures { λ r. ⌜ (r .refusal ≡ refusal) × (stateAfter (r .state) ≡ zeroState) ⌝ }
 {
     let zeros = [0.0; PARAMS];
     Tried {
@@ -372,7 +409,7 @@ pub fn trial(
     scratch: &mut [f64],
 ) -> Tried
     ensures { λ r. ⌜ Tries (probeRefusal (now (counts .entry)) (now (times .entry)) (now (freqs .entry)) (length (now (counts .entry))) (length (now (scratch .entry))) 281792)
-        (trialOf second (stationOf (now (times .entry)) «center_freq» «rec_ecef») (samplesOf (now (counts .entry)) (now (times .entry)) (now (freqs .entry))) (searchOf s))
+        (trialOf second (stationOf (now (times .entry)) «center_freq» «rec_ecef») (samplesOf (now (counts .entry)) (now (times .entry)) (now (freqs .entry))) (stateSearch s))
         (now (scratch .entry)) (now (scratch .exit)) r ⌝ }
 {
     let early = refusal_of(counts, times, freqs, counts.len(), scratch.len(), TABLE);

@@ -57,11 +57,10 @@ fn refusal_of(second: bool, t: Tried) -> u32 {
     let s = t.state;
     let e = s.ended;
     match e {
-        Ending::TooFar => refusal::FAR_MOMENT,
         Ending::Short => { if second { refusal::FEW_SAMPLES } else { 0 } }
         Ending::Running => 0,
         Ending::Damped => 0,
-        Ending::NoPivot => 0,
+        Ending::Refused(_) => 0,
         Ending::Converged => 0,
     }
 }
