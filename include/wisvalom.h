@@ -45,8 +45,7 @@ double wisvalom_cbrt(double x);
 double wisvalom_sin(double v);
 double wisvalom_cos(double v);
 
-/* The rest of document 01's arithmetic: a whole power by repeated products, casts that cut, saturate and make NaN 0, and the
- * product modulo 2^64. */
+/* The rest of document 01's arithmetic: casts that cut, saturate and make NaN 0, and the product modulo 2^64. */
 double wisvalom_abs(double v);
 double wisvalom_max(double v, double w);
 double wisvalom_min(double v, double w);
@@ -56,7 +55,6 @@ double wisvalom_signum(double v);
 double wisvalom_rem_euclid(double v, double d);
 double wisvalom_to_degrees(double v);
 double wisvalom_to_radians(double v);
-double wisvalom_power(double v, uint64_t n);
 double wisvalom_ln(double v);
 uint64_t wisvalom_to_u64(double v);
 int64_t wisvalom_to_i64(double v);
@@ -112,24 +110,6 @@ uint32_t wisvalom_compute_gradient(const uint32_t *counts, size_t passes, const 
                                    const double *freqs, size_t frequencies, const double *centers, size_t centres, double x,
                                    double y, double z, double a, double i, int64_t epoch, uint32_t epoch_nanos,
                                    double center_freq, double raan0, double u0, double out[4]);
-
-/* The best of 144 starts on a set without empty passes: raan0, u0 and their sum. The table, of 48,032 numbers or more, is written
- * over. Refuses: 4, 5, 9 (no pass), 10 (no sample), 21. */
-uint32_t wisvalom_search_starts(const uint32_t *counts, size_t passes, const int64_t *times, size_t samples, const double *freqs,
-                                size_t frequencies, const double *centers, size_t centres, double x, double y, double z, double a,
-                                double i, double *table, size_t table_room, double out[3]);
-
-/* The residuals of a set of parameters (a, i, raan0, u0, then each pass's biases: two in the first refinement, four in the second) with
- * their penalised sum, and one trial of a refinement from any state, with what follows it. The epoch is the first sample's moment; no
- * pass is empty. `out` has 4,144 numbers or more, `scratch` 281,792, which are written over. *ended: 0 it goes on, 1 a moment is too
- * far (23), 2 too few residuals, 3 the damping, 4 a pivot, 5 a small step. Refuse: 4, 5, 10 (no sample), 21; the residuals also 23. */
-uint32_t wisvalom_residuals(bool second, const uint32_t *counts, size_t passes, const int64_t *times, size_t samples,
-                            const double *freqs, size_t frequencies, double center_freq, double x, double y, double z,
-                            const double params[68], double *out, size_t room, double *sum);
-uint32_t wisvalom_trial(bool second, const uint32_t *counts, size_t passes, const int64_t *times, size_t samples,
-                        const double *freqs, size_t frequencies, double center_freq, double x, double y, double z,
-                        double params[68], double best_params[68], double *damping, double *best, uint32_t *ended, double *scratch,
-                        size_t scratch_room);
 
 /* Solves a system of n rows, the matrix row by row; scratch has n*(n + 1) numbers or more. Refuses: 5, 12, 21, 22. */
 uint32_t wisvalom_solve_linear_system(const double *matrix, size_t cells, const double *vector, size_t rows, size_t n, double *out,

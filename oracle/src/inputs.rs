@@ -55,6 +55,27 @@ fn parameters(r: &mut Random, biases: usize, passes: usize, i: f64) -> Vec<f64> 
     set
 }
 
+/// A best sum and the set that was kept with it: often another one, at times too far itself or moved too far by its table.
+fn standing(r: &mut Random, tried: &[f64]) -> (f64, Vec<f64>) {
+    let best = match r.below(8) {
+        0 | 1 => 0.0,
+        2 => r.pick(&[5e-324, 1e-9, 1.0, 1e5]),
+        3 => r.pick(&[1e9, 1e11, 1e20, 1e300, f64::INFINITY]),
+        4 => f64::NAN,
+        _ => f64::MAX,
+    };
+    let mut kept = tried.to_vec();
+    if r.one_in(2) {
+        for v in kept.iter_mut() {
+            *v *= 1.0 + r.between(-0.01, 0.01);
+        }
+    }
+    if r.one_in(8) {
+        kept[4] = r.pick(&[1e13, -1e13, 8e12, 9.3e12, f64::NAN, f64::INFINITY]);
+    }
+    (best, kept)
+}
+
 fn base(r: &mut Random) -> u64 {
     if r.one_in(20) { r.below(10) } else { 2 + r.below(6) }
 }
@@ -140,6 +161,9 @@ pub fn fields(kind: &str, seed: u64, k: u64) -> Vec<u64> {
             while !workable(&c) {
                 c = cases::set(r);
             }
+            if r.one_in(12) {
+                c.set.freqs[0] = r.pick(&[1e160, -1e160, 1e150]);
+            }
             let set = if kind.ends_with('2') { parameters(r, 4, c.set.non_empty(), c.i) } else { parameters(r, 2, 2, c.i) };
             let l = l.set(&c.set).floats(&c.receiver);
             if kind.starts_with("residuals") {
@@ -150,7 +174,8 @@ pub fn fields(kind: &str, seed: u64, k: u64) -> Vec<u64> {
                 let l = if loops { l.word(if r.one_in(8) { 150 } else { r.below(30) }) } else { l };
                 let small = loops && r.one_in(3);
                 let damping = if small { 1e-150 } else { r.pick(&[1e-6, 1e-3, 0.1, 1.0, 10.0, 1e3, 1e7]) };
-                l.list(&set).float(damping).float(if r.one_in(3) { 0.0 } else { f64::MAX }).list(&set)
+                let (best, kept) = standing(r, &set);
+                l.list(&set).float(damping).float(best).list(&kept)
             }
         }
         "fit" => {
@@ -162,7 +187,18 @@ pub fn fields(kind: &str, seed: u64, k: u64) -> Vec<u64> {
             l.set(&c.set).floats(&c.receiver).float(c.a).float(c.i).bytes(&cases::name(r))
         }
         "determine" => {
-            let c = simulator::any(seed.wrapping_add(k));
+            let mut c = simulator::any(seed.wrapping_add(k));
+            // Some of these have a time out of range, too.
+            if r.one_in(6) {
+                if r.one_in(2) {
+                    c.set.centers.pop();
+                } else {
+                    c.set.centers.push(1e8);
+                }
+                if r.one_in(2) && !c.set.times.is_empty() {
+                    c.set.times[0] = i64::MIN;
+                }
+            }
             let bytes = if r.one_in(8) { files::stored(r.word(), &c.set) } else { c.set.stored() };
             determination(l, &bytes, &c, &cases::name(r))
         }

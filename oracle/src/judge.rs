@@ -386,9 +386,16 @@ pub fn fit_lines(s: &Set, rec: [f64; 3], a: f64, i: f64, name: &[u8]) -> Answer<
     Ok((fit, lines))
 }
 
-/// The same on stored bytes, whose 5 and 4 come first.
+/// The same on stored bytes: any 5 comes first, theirs or that of centres that are not one per pass, then their 4.
 pub fn determine(bytes: &[u8], centers: Vec<f64>, rec: [f64; 3], a: f64, i: f64, name: &[u8]) -> Answer<(Fit, Answer<Vec<u8>>)> {
-    fit_lines(&Set { centers, ..load(bytes)? }, rec, a, i, name)
+    let set = Set { centers, ..sized(bytes)? };
+    if set.centers.len() != set.counts.len() {
+        return Err(5);
+    }
+    if set.moments_outside() {
+        return Err(4);
+    }
+    fit_lines(&set, rec, a, i, name)
 }
 
 // Numbers and times as text: Rust's own, and chrono's.
@@ -511,6 +518,12 @@ pub fn file(bytes: &[u8]) -> Answer<File> {
 
 /// A stored pass set (document 01, "A stored pass set has sizes first"); the original has none. Centres stand beside it.
 pub fn load(bytes: &[u8]) -> Answer<Set> {
+    let set = sized(bytes)?;
+    if set.moments_outside() { Err(4) } else { Ok(set) }
+}
+
+/// The same whatever its times are: 5 or none.
+fn sized(bytes: &[u8]) -> Answer<Set> {
     let word = |k: usize| bytes.get(4 * k..4 * k + 4).map(|b| u32::from_le_bytes(b.try_into().unwrap()));
     let passes = word(0).ok_or(5u32)? as usize;
     if passes > 16 {
@@ -524,13 +537,12 @@ pub fn load(bytes: &[u8]) -> Answer<Set> {
     }
     let eights: Vec<[u8; 8]> = bytes[start..].chunks(8).map(|b| b.try_into().unwrap()).collect();
     let (times, freqs) = eights.split_at(total as usize);
-    let set = Set {
+    Ok(Set {
         centers: vec![0.0; passes],
         counts,
         times: times.iter().map(|b| i64::from_le_bytes(*b)).collect(),
         freqs: freqs.iter().map(|b| f64::from_le_bytes(*b)).collect(),
-    };
-    if set.moments_outside() { Err(4) } else { Ok(set) }
+    })
 }
 
 /// The stored bytes of a set, every NaN as one; the centres stand beside them. 4, then 5.

@@ -1,13 +1,13 @@
-//! The port, through its static library, in the shape of `judge.rs`: the kinds of lines are made by the same code for
-//! both. Every output is lent between guards and filled with a pattern before the call; after it, whatever should have
+//! The port, through its static libraries (`exports`, and `probes` for the calls that only the comparison makes), in the shape of
+//! `judge.rs`: the kinds of lines are made by the same code for both. Every output is lent between guards and filled with a pattern before the call; after it, whatever should have
 //! been left alone is looked at. A function that the port does not export yet is in no list of KINDS.
 #![allow(dead_code)]
 use common::{Moment, Set};
 pub use patched::judge::{Answer, File, Fit, State};
 
 pub const KINDS: &[&str] = &[
-    "sqrt", "cbrt", "sin", "cos", "ln", "abs", "floor", "round", "signum", "to_degrees", "to_radians", "powi2", "powi3",
-    "power", "max", "min", "rem_euclid", "to_u64", "to_i64", "wrapping_mul", "draw", "gaussian", "monna", "unmonna", "padic",
+    "sqrt", "cbrt", "sin", "cos", "ln", "abs", "floor", "round", "signum", "to_degrees", "to_radians", "max",
+    "min", "rem_euclid", "to_u64", "to_i64", "wrapping_mul", "draw", "gaussian", "monna", "unmonna", "padic",
     "history", "normal", "jd", "teme", "prop", "pred", "poly", "pca", "rss", "grad", "solve", "residuals1",
     "residuals2", "step1", "step2", "steps1", "steps2", "lines", "checksum", "file", "load", "store", "parse", "put_fixed",
     "rfc3339",
@@ -55,7 +55,6 @@ unsafe extern "C" {
     pub fn wisvalom_rem_euclid(v: f64, d: f64) -> f64;
     pub fn wisvalom_to_degrees(v: f64) -> f64;
     pub fn wisvalom_to_radians(v: f64) -> f64;
-    pub fn wisvalom_power(v: f64, n: u64) -> f64;
     pub fn wisvalom_ln(v: f64) -> f64;
     pub fn wisvalom_to_u64(v: f64) -> u64;
     pub fn wisvalom_to_i64(v: f64) -> i64;
@@ -81,11 +80,6 @@ unsafe extern "C" {
         x: f64, y: f64, z: f64, a: f64, i: f64, epoch: i64, epoch_nanos: u32, center_freq: f64, raan0: f64, u0: f64,
         out: *mut f64,
     ) -> u32;
-    pub fn wisvalom_search_starts(
-        counts: *const u32, passes: usize, times: *const i64, samples: usize,
-        freqs: *const f64, frequencies: usize, centers: *const f64, centres: usize,
-        x: f64, y: f64, z: f64, a: f64, i: f64, table: *mut f64, room: usize, out: *mut f64,
-    ) -> u32;
     pub fn wisvalom_solve_linear_system(
         matrix: *const f64, cells: usize, vector: *const f64, rows: usize, n: usize,
         out: *mut f64, room: usize, scratch: *mut f64, places: usize,
@@ -102,15 +96,6 @@ unsafe extern "C" {
     pub fn wisvalom_format_tle_catalog(
         name: *const u8, n: usize, a: f64, i: f64, raan0: f64, u0: f64, epoch: i64, epoch_nanos: u32,
         out: *mut u8, room: usize, length: *mut usize,
-    ) -> u32;
-    pub fn wisvalom_residuals(
-        second: bool, counts: *const u32, passes: usize, times: *const i64, samples: usize, freqs: *const f64, frequencies: usize,
-        center_freq: f64, x: f64, y: f64, z: f64, params: *const f64, out: *mut f64, room: usize, sum: *mut f64,
-    ) -> u32;
-    pub fn wisvalom_trial(
-        second: bool, counts: *const u32, passes: usize, times: *const i64, samples: usize, freqs: *const f64, frequencies: usize,
-        center_freq: f64, x: f64, y: f64, z: f64, params: *mut f64, best_params: *mut f64, damping: *mut f64, best: *mut f64,
-        ended: *mut u32, scratch: *mut f64, room: usize,
     ) -> u32;
     pub fn wisvalom_fit_orbit_doppler(
         counts: *const u32, passes: usize, times: *const i64, samples: usize,
@@ -140,6 +125,24 @@ unsafe extern "C" {
     pub fn wisvalom_parse(text: *const u8, n: usize, taken: *mut u32, out: *mut f64) -> u32;
     pub fn wisvalom_put_fixed(v: f64, places: usize, pad: u8, out: *mut u8, room: usize, at: usize, width: usize) -> bool;
     pub fn wisvalom_parse_from_rfc3339(text: *const u8, n: usize, seconds: *mut u64, nanos: *mut u64) -> bool;
+}
+
+#[link(name = "probes", kind = "static")]
+unsafe extern "C" {
+    pub fn wisvalom_search_starts(
+        counts: *const u32, passes: usize, times: *const i64, samples: usize,
+        freqs: *const f64, frequencies: usize, centers: *const f64, centres: usize,
+        x: f64, y: f64, z: f64, a: f64, i: f64, table: *mut f64, room: usize, out: *mut f64,
+    ) -> u32;
+    pub fn wisvalom_residuals(
+        second: bool, counts: *const u32, passes: usize, times: *const i64, samples: usize, freqs: *const f64, frequencies: usize,
+        center_freq: f64, x: f64, y: f64, z: f64, params: *const f64, out: *mut f64, room: usize, sum: *mut f64,
+    ) -> u32;
+    pub fn wisvalom_trial(
+        second: bool, counts: *const u32, passes: usize, times: *const i64, samples: usize, freqs: *const f64, frequencies: usize,
+        center_freq: f64, x: f64, y: f64, z: f64, params: *mut f64, best_params: *mut f64, damping: *mut f64, best: *mut f64,
+        ended: *mut u32, scratch: *mut f64, room: usize,
+    ) -> u32;
 }
 
 /// Memory lent to a call: `n` places between guards, all filled with a pattern.
@@ -219,8 +222,6 @@ pub mod floats {
                 "signum" => wisvalom_signum(v),
                 "to_degrees" => wisvalom_to_degrees(v),
                 "to_radians" => wisvalom_to_radians(v),
-                "powi2" => wisvalom_power(v, 2),
-                "powi3" => wisvalom_power(v, 3),
                 _ => return None,
             })
         }
@@ -235,8 +236,9 @@ pub mod floats {
             })
         }
     }
-    pub fn power(v: f64, n: u64) -> Option<f64> {
-        Some(unsafe { wisvalom_power(v, n) })
+    /// Not exported: it takes as many turns as it is asked for.
+    pub fn power(_: f64, _: u64) -> Option<f64> {
+        None
     }
     pub fn to_u64(v: f64) -> Option<u64> {
         Some(unsafe { wisvalom_to_u64(v) })
@@ -423,10 +425,13 @@ pub fn search(s: &Set, rec: [f64; 3], a: f64, i: f64) -> Answer<[f64; 3]> {
             s.centers.len(), rec[0], rec[1], rec[2], a, i, table, room, out,
         )
     };
-    let mut table = Lent::new(TABLE, PATTERN);
-    let got = lent(3, |out| call(table.start(), TABLE, out));
-    table.guarded();
-    if got.is_ok() {
+    let room = TABLE + spare(s.times.len());
+    let mut table = Lent::new(room, PATTERN);
+    let got = lent(3, |out| call(table.start(), room, out));
+    if got.is_err() {
+        table.written(0);
+    } else {
+        table.all(0.0);
         let mut out = Lent::new(3, PATTERN);
         short(TABLE, PATTERN, |table, room| call(table, room, out.start()));
         out.written(0);
@@ -577,43 +582,62 @@ pub fn residuals(second_one: bool, s: &Set, rec: [f64; 3], set: &[f64]) -> Answe
             rec[0], rec[1], rec[2], params.start(), out, room, sum,
         )
     };
-    let (mut out, mut sum) = (Lent::new(ROWS, PATTERN), Lent::new(1, PATTERN));
-    let refusal = call(out.start(), ROWS, sum.start());
-    let got = sum.written(1)[0];
+    let room = ROWS + spare(s.times.len());
+    let (mut out, mut sum) = (Lent::new(room, PATTERN), Lent::new(1, PATTERN));
+    let refusal = call(out.start(), room, sum.start());
     if refusal != 0 {
-        out.guarded();
-        assert!(got == 0.0, "a refusal with a sum");
+        out.written(0);
+        sum.written(0);
+        params.written(set.len());
         return Err(refusal);
     }
-    short(ROWS, PATTERN, |out, room| call(out, room, sum.start()));
+    let mut none = Lent::new(1, PATTERN);
+    short(ROWS, PATTERN, |out, room| call(out, room, none.start()));
+    none.written(0);
     params.written(set.len());
-    Ok((out.written(s.times.len() + s.counts.len() * if second_one { 3 } else { 1 }), got))
+    Ok((out.written(s.times.len() + s.counts.len() * if second_one { 3 } else { 1 }), sum.written(1)[0]))
 }
 
-/// The state after one trial, and whether the refinement goes on.
+/// The state after one trial, and whether the refinement goes on. A refusal leaves the given state and the place of the ending as they were, and scratch
+/// is untouched up to 21 and all zeros after any later ending.
 fn trial(second_one: bool, s: &Set, rec: [f64; 3], from: &State) -> Answer<(State, bool)> {
     let n = from.set.len();
     let (mut params, mut kept, mut numbers, mut ended) = (places(&from.set), places(&from.kept), Lent::new(2, PATTERN), Lent::new(1, u32::MAX));
-    let mut call = |scratch: *mut f64, room: usize| unsafe {
-        let number = numbers.start();
+    let number = numbers.start();
+    unsafe {
         *number = from.damping;
         *number.add(1) = from.best;
+    }
+    let mut call = |scratch: *mut f64, room: usize| unsafe {
         wisvalom_trial(
             second_one, s.counts.as_ptr(), s.counts.len(), s.times.as_ptr(), s.times.len(), s.freqs.as_ptr(), s.freqs.len(), s.centers[0],
             rec[0], rec[1], rec[2], params.start(), kept.start(), number, number.add(1), ended.start(), scratch, room,
         )
     };
     short(CELLS, PATTERN, &mut call);
-    let mut scratch = Lent::new(CELLS, PATTERN);
-    let refusal = call(scratch.start(), CELLS);
-    scratch.guarded();
-    let (set, kept, numbers) = (params.written(n), kept.written(n), numbers.written(2));
-    match (refusal, ended.written(1)[0]) {
-        (0, 1) => Err(23),
-        (0, 2) if second_one => Err(10),
-        (0, end) => Ok((State { set, damping: numbers[0], best: numbers[1], kept }, end == 0)),
-        _ => Err(refusal),
+    let room = CELLS + spare(s.times.len());
+    let mut scratch = Lent::new(room, PATTERN);
+    let refusal = call(scratch.start(), room);
+    if (1..=21).contains(&refusal) {
+        scratch.written(0);
+    } else {
+        scratch.all(0.0);
     }
+    let after = State { set: params.written(n), damping: numbers.written(2)[0], best: numbers.written(2)[1], kept: kept.written(n) };
+    if refusal != 0 {
+        ended.written(0);
+        assert!(state_bits(&after) == state_bits(from), "a refusal with a state");
+        return Err(refusal);
+    }
+    match ended.written(1)[0] {
+        // The original's first refinement just ends; its second is an error, which the fit's own 10 has come before.
+        2 if second_one => Err(10),
+        end => Ok((after, end == 0)),
+    }
+}
+
+fn state_bits(s: &State) -> Vec<u64> {
+    s.set.iter().chain(&s.kept).chain([&s.damping, &s.best]).map(|v| v.to_bits()).collect()
 }
 
 fn trials(second_one: bool, s: &Set, rec: [f64; 3], from: State, tries: usize) -> Answer<State> {

@@ -3,7 +3,7 @@
 use mathlib.Core.Path.{_≡_, refl, sym, ap, _∙_, subst}
 use mathlib.Core.Bool.{Bool, true, false, cond}
 use mathlib.Core.Logic.{_⊎_, inl, inr, ⊎-elim}
-use mathlib.Core.List.{List, [], _∷_, _++_, map, map-append}
+use mathlib.Core.List.{List, [], _∷_, _++_, append-nil, map, map-append}
 use mathlib.Core.Option.{Option, none, some}
 use Prim.Native.Nat.{ℕ, zero, suc, _+_, _≤_, _<_}
 use native.Mathlib.Omega.{arith}
@@ -11,48 +11,17 @@ use lib.Dec.{T}
 use lib.ListN.{length, length-append}
 use lib.Ieee.{Float, lt, isNan, round}
 use Rattle.float.proofs.Order.{not-nan}
-use Rattle.normal.specs.Step.{Outcome, next, singular, far}
+use Rattle.normal.specs.Step.{Outcome}
 use Rattle.float.specs.Ops.{largest}
-use Rattle.book.specs.Book.{Search, After, keep, leave, judged, moveBy, whileRunning, move, followed, Book, opening, noted, trial, turn, book}
+use Rattle.book.specs.Book.{Search, After, keep, leave, judged, whileRunning, Book, openBook, goneTo, noted, trial, following, turn, book}
 use Rattle.book.specs.declared.Ending.{Ending}
-use Rattle.book.specs.declared.Ending.the-variants.{Running, TooFar, Short, Damped, NoPivot, Converged}
-use Rattle.book.specs.Demand.{largestSum, All, Falling, Tried}
+use Rattle.book.specs.declared.Ending.the-variants.{Running, Refused, Short, Damped, Converged}
+use Rattle.book.specs.Demand.{largestSum, All, Falling, minima, keptSets, lastOf, lastSet, Tried}
 use Rattle.book.proofs.Order.{irrefl, not-below, at-most}
-use Rattle.book.proofs.Books.{book-ind, counted}
+use Rattle.book.proofs.Books.{Same, book-ind, counted}
 
--- ---- a step moves neither the best sum nor its set
+-- ---- the search after a trial
 
-record Same (s r : Search) : Type 0 where
-  best : r .best ≡ s .best
-  set : r .bestSet ≡ s .bestSet
-
-moved-same : (s : Search) (o : Outcome) → Same s (moveBy s o .search)
-moved-same s singular = record { best = refl; set = refl }
-moved-same s far = record { best = refl; set = refl }
-moved-same s (next x size) = record { best = refl; set = refl }
-
-module _ (step : Float → List Float → Outcome) (enough : Bool) where
-  move-same : (s : Search) → Same s (move step enough s .search)
-  unfolding move
-  move-same s = go enough
-    where
-      go : (t : Bool) → Same s (cond t (moveBy s (step (s .damping) (s .next))) (record { search = s; ended = Short }) .search)
-      go true = moved-same s (step (s .damping) (s .next))
-      go false = record { best = refl; set = refl }
-
-  followed-same : (a : After) → Same (a .search) (followed step enough a .search)
-  unfolding followed
-  followed-same a = go (a .ended)
-    where
-      go : (g : Ending) → Same (a .search) (whileRunning g (move step enough (a .search)) a .search)
-      go Running = move-same (a .search)
-      go TooFar = record { best = refl; set = refl }
-      go Short = record { best = refl; set = refl }
-      go Damped = record { best = refl; set = refl }
-      go NoPivot = record { best = refl; set = refl }
-      go Converged = record { best = refl; set = refl }
-
--- the search after a trial
 judged-kept : (v : Float) (s : Search) → lt v (s .best) ≡ true → judged v s .search ≡ keep v s
 unfolding judged
 judged-kept v s h = rw h
@@ -73,30 +42,16 @@ unfolding All
 all-snoc P [] v h p = (p, tt)
 all-snoc P (s ∷ l) v h p = (h .0, all-snoc P l v (h .1) p)
 
--- the last number of a list, or the top
-lastOf : Float → List Float → Float
-lastOf top [] = top
-lastOf top (s ∷ l) = lastOf s l
-
-falling-snoc : (top : Float) (l : List Float) (v : Float) → Falling top l → lt v (lastOf top l) ≡ true → Falling top (l ++ (v ∷ []))
-unfolding Falling lastOf
-falling-snoc top [] v h p = (p, tt)
-falling-snoc top (s ∷ l) v h p = (h .0, falling-snoc s l v (h .1) p)
-
 last-snoc : (top : Float) (l : List Float) (v : Float) → lastOf top (l ++ (v ∷ [])) ≡ v
 unfolding lastOf
 last-snoc top [] v = refl
 last-snoc top (s ∷ l) v = last-snoc s l v
 
-falling-same : (top : Float) (l : List Float) → Falling top l → Falling top (l ++ [])
-unfolding Falling
-falling-same top [] h = tt
-falling-same top (s ∷ l) h = (h .0, falling-same s l (h .1))
-
-last-same : (top : Float) (l : List Float) → lastOf top (l ++ []) ≡ lastOf top l
-unfolding lastOf
-last-same top [] = refl
-last-same top (s ∷ l) = last-same s l
+last-set-snoc : (xs : List (List Float)) (x : List Float) → lastSet (xs ++ (x ∷ [])) ≡ some x
+unfolding lastSet
+last-set-snoc [] x = refl
+last-set-snoc (y ∷ []) x = refl
+last-set-snoc (y ∷ z ∷ xs) x = last-set-snoc (z ∷ xs) x
 
 longer : (l : List Float) (v : Float) → 0 < length (l ++ (v ∷ []))
 longer l v = rw length-append (omega arith)
@@ -109,76 +64,148 @@ sums-snoc sum xs x l v h e =
     ∙ ap (λ (w : Option Float). map some l ++ (w ∷ [])) (sym e)
     ∙ sym (map-append some l (v ∷ []))
 
+-- ---- the kept sums and sets of one sum more
+
+minima-snoc : (b : Float) (l : List Float) (v : Float) → minima b (l ++ (v ∷ [])) ≡ minima b l ++ cond (lt v (lastOf b (minima b l))) (v ∷ []) []
+unfolding minima lastOf
+minima-snoc b [] v = refl
+minima-snoc b (s ∷ l) v = go (lt s b) (minima-snoc s l v) (minima-snoc b l v)
+  where
+    go : (t : Bool)
+        → minima s (l ++ (v ∷ [])) ≡ minima s l ++ cond (lt v (lastOf s (minima s l))) (v ∷ []) []
+        → minima b (l ++ (v ∷ [])) ≡ minima b l ++ cond (lt v (lastOf b (minima b l))) (v ∷ []) []
+        → cond t (s ∷ minima s (l ++ (v ∷ []))) (minima b (l ++ (v ∷ [])))
+        ≡ cond t (s ∷ minima s l) (minima b l) ++ cond (lt v (lastOf b (cond t (s ∷ minima s l) (minima b l)))) (v ∷ []) []
+    go true p q = ap (s ∷_) p
+    go false p q = q
+
+sets-snoc : (b : Float) (l : List Float) (v : Float) (xs : List (List Float)) (x : List Float) → length l ≡ length xs
+    → keptSets b (l ++ (v ∷ [])) (xs ++ (x ∷ [])) ≡ keptSets b l xs ++ cond (lt v (lastOf b (minima b l))) (x ∷ []) []
+unfolding keptSets minima lastOf
+sets-snoc b [] v [] x h = refl
+sets-snoc b [] v (y ∷ xs) x h = absurd (omega (arith, h))
+sets-snoc b (s ∷ l) v [] x h = absurd (omega (arith, h))
+sets-snoc b (s ∷ l) v (y ∷ xs) x h = let k : length l ≡ length xs = omega (arith, h) in go (lt s b) (sets-snoc s l v xs x k) (sets-snoc b l v xs x k)
+  where
+    go : (t : Bool)
+        → keptSets s (l ++ (v ∷ [])) (xs ++ (x ∷ [])) ≡ keptSets s l xs ++ cond (lt v (lastOf s (minima s l))) (x ∷ []) []
+        → keptSets b (l ++ (v ∷ [])) (xs ++ (x ∷ [])) ≡ keptSets b l xs ++ cond (lt v (lastOf b (minima b l))) (x ∷ []) []
+        → cond t (y ∷ keptSets s (l ++ (v ∷ [])) (xs ++ (x ∷ []))) (keptSets b (l ++ (v ∷ [])) (xs ++ (x ∷ [])))
+        ≡ cond t (y ∷ keptSets s l xs) (keptSets b l xs) ++ cond (lt v (lastOf b (cond t (s ∷ minima s l) (minima b l)))) (x ∷ []) []
+    go true p q = ap (y ∷_) p
+    go false p q = q
+
+falling-minima : (b : Float) (l : List Float) → Falling b (minima b l)
+unfolding Falling minima
+falling-minima b [] = tt
+falling-minima b (s ∷ l) = go (lt s b) refl (falling-minima s l) (falling-minima b l)
+  where
+    go : (t : Bool) → lt s b ≡ t → Falling s (minima s l) → Falling b (minima b l) → Falling b (cond t (s ∷ minima s l) (minima b l))
+    go true e p q = (e, p)
+    go false e p q = q
+
 -- ---- what every trial keeps
 
-record Sound (sum : List Float → Option Float) (b : Book) : Type 0 where
-  sums : map sum (b .tried) ≡ map some (b .log)
-  lowest : All (λ s. lt s (b .search .best) ≡ false) (b .log)
-  falling : Falling largest (b .kept)
-  last : lastOf largest (b .kept) ≡ b .search .best
-  number : isNan (b .search .best) ≡ false
-  known : (b .search .best ≡ largest) ⊎ ((sum (b .search .bestSet) ≡ some (b .search .best)) × (0 < length (b .log)))
+record Sound (sum : List Float → Option Float) (tried : List (List Float)) (log kept : List Float) (best : Float) (set : List Float) : Type 0 where
+  sums : map sum tried ≡ map some log
+  pairs : length log ≡ length tried
+  lowest : All (λ s. lt s best ≡ false) log
+  keeps : kept ≡ minima largest log
+  last : lastOf largest kept ≡ best
+  number : isNan best ≡ false
+  known : (best ≡ largest) ⊎ ((sum set ≡ some best) × (0 < length log) × (lastSet (keptSets largest log tried) ≡ some set))
+
+abbrev SoundBook : (List Float → Option Float) → Book → Type 0
+SoundBook sum b = Sound sum (b .tried) (b .log) (b .kept) (b .search .best) (b .search .bestSet)
+
+module _ (sum : List Float → Option Float) where
+  opens : (x : List Float) → SoundBook sum (openBook x)
+  unfolding openBook All minima lastOf isNan largest
+  opens x = record { sums = refl; pairs = refl; lowest = tt; keeps = refl; last = refl; number = refl; known = inl refl }
+
+  module _ (b : Book) (p : SoundBook sum b) (v : Float) (e : some v ≡ sum (b .search .next)) where
+    pairs-snoc : length (b .log ++ (v ∷ [])) ≡ length (b .tried ++ (b .search .next ∷ []))
+    pairs-snoc = length-append (b .log) (v ∷ []) ∙ ap (_+ 1) (p .pairs) ∙ sym (length-append (b .tried) (b .search .next ∷ []))
+
+    -- the last kept sum so far is the best
+    bound : lastOf largest (minima largest (b .log)) ≡ b .search .best
+    bound = ap (lastOf largest) (sym (p .keeps)) ∙ p .last
+
+    kept-snoc : b .kept ++ cond (lt v (b .search .best)) (v ∷ []) [] ≡ minima largest (b .log ++ (v ∷ []))
+    kept-snoc = rw (minima-snoc largest (b .log) v, bound, p .keeps)
+
+    sets-now : keptSets largest (b .log ++ (v ∷ [])) (b .tried ++ (b .search .next ∷ [])) ≡ keptSets largest (b .log) (b .tried) ++ cond (lt v (b .search .best)) (b .search .next ∷ []) []
+    sets-now = rw (sets-snoc largest (b .log) v (b .tried) (b .search .next) (p .pairs), bound)
+
+    -- whether the sum was below the best
+    keeps-by : (t : Bool) → lt v (b .search .best) ≡ t → SoundBook sum (noted (some v) b)
+    keeps-by true h =
+        let best : judged v (b .search) .search .best ≡ v = ap (λ (r : Search). r .best) (judged-kept v (b .search) h) in
+        let set : judged v (b .search) .search .bestSet ≡ b .search .next = ap (λ (r : Search). r .bestSet) (judged-kept v (b .search) h) in
+        record {
+          sums = sums-snoc sum (b .tried) (b .search .next) (b .log) v (p .sums) e;
+          pairs = pairs-snoc;
+          lowest = rw best (all-snoc _ (b .log) v (all-map _ _ (λ s q. not-below s v (b .search .best) q h) (b .log) (p .lowest)) (irrefl v));
+          keeps = kept-snoc;
+          last = rw h (last-snoc largest (b .kept) v ∙ sym best);
+          number = ap isNan best ∙ not-nan v (b .search .best) h;
+          known = inr (
+            ap sum set ∙ sym e ∙ ap some (sym best),
+            longer (b .log) v,
+            ap lastSet sets-now ∙ rw h (last-set-snoc (keptSets largest (b .log) (b .tried)) (b .search .next)) ∙ ap some (sym set),
+          );
+        }
+    keeps-by false h =
+        let best : judged v (b .search) .search .best ≡ b .search .best = ap (λ (r : Search). r .best) (judged-left v (b .search) h) in
+        let set : judged v (b .search) .search .bestSet ≡ b .search .bestSet = ap (λ (r : Search). r .bestSet) (judged-left v (b .search) h) in
+        record {
+          sums = sums-snoc sum (b .tried) (b .search .next) (b .log) v (p .sums) e;
+          pairs = pairs-snoc;
+          lowest = rw best (all-snoc _ (b .log) v (p .lowest) h);
+          keeps = kept-snoc;
+          last = rw (h, append-nil) (p .last ∙ sym best);
+          number = ap isNan best ∙ p .number;
+          known = ⊎-elim
+              (λ z. inl (best ∙ z))
+              (λ k. inr (ap sum set ∙ k .0 ∙ ap some (sym best), longer (b .log) v, ap lastSet sets-now ∙ rw (h, append-nil) (k .2) ∙ ap some (sym set)))
+              (p .known);
+        }
+
+  goes : (b : Book) → SoundBook sum b → (a : After) → Same (b .search) (a .search) → SoundBook sum (goneTo a b)
+  goes b p a same = rw (same .best, same .set) p
+
+  sound : (step : Float → List Float → Outcome) (enough : Bool) (x : List Float) (n : ℕ) → SoundBook sum (book sum step enough x n)
+  sound step enough x = book-ind sum step enough (SoundBook sum) (λ b p v e. keeps-by b p v e (lt v (b .search .best)) refl) goes x (opens x)
 
 module _ (sum : List Float → Option Float) (step : Float → List Float → Outcome) (enough : Bool) where
-  opens : (x : List Float) → Sound sum (opening x)
-  unfolding opening All Falling lastOf isNan largest
-  opens x = record { sums = refl; lowest = tt; falling = tt; last = refl; number = refl; known = inl refl }
-
-  -- with the search r after the trial, and whether the sum was below the best
-  keeps-by : (b : Book) → Sound sum b → (v : Float) → some v ≡ sum (b .search .next) → (t : Bool) → lt v (b .search .best) ≡ t → (a : After) → Same (judged v (b .search) .search) (a .search) → Sound sum (noted v a b)
-  keeps-by b p v e true h a same =
-      let best : a .search .best ≡ v = same .best ∙ ap (λ (r : Search). r .best) (judged-kept v (b .search) h) in
-      let set : a .search .bestSet ≡ b .search .next = same .set ∙ ap (λ (r : Search). r .bestSet) (judged-kept v (b .search) h) in
-      record {
-        sums = sums-snoc sum (b .tried) (b .search .next) (b .log) v (p .sums) e;
-        lowest = rw best (all-snoc _ (b .log) v (all-map _ _ (λ s q. not-below s v (b .search .best) q h) (b .log) (p .lowest)) (irrefl v));
-        falling = rw h (falling-snoc largest (b .kept) v (p .falling) (rw (p .last) h));
-        last = rw h (last-snoc largest (b .kept) v ∙ sym best);
-        number = ap isNan best ∙ not-nan v (b .search .best) h;
-        known = inr (ap sum set ∙ sym e ∙ ap some (sym best), longer (b .log) v);
-      }
-  keeps-by b p v e false h a same =
-      let best : a .search .best ≡ b .search .best = same .best ∙ ap (λ (r : Search). r .best) (judged-left v (b .search) h) in
-      let set : a .search .bestSet ≡ b .search .bestSet = same .set ∙ ap (λ (r : Search). r .bestSet) (judged-left v (b .search) h) in
-      record {
-        sums = sums-snoc sum (b .tried) (b .search .next) (b .log) v (p .sums) e;
-        lowest = rw best (all-snoc _ (b .log) v (p .lowest) h);
-        falling = rw h (falling-same largest (b .kept) (p .falling));
-        last = rw h (last-same largest (b .kept) ∙ p .last ∙ sym best);
-        number = ap isNan best ∙ p .number;
-        known = ⊎-elim
-            (λ z. inl (best ∙ z))
-            (λ k. inr (ap sum set ∙ k .0 ∙ ap some (sym best), longer (b .log) v))
-            (p .known);
-      }
-
-  keeps : (b : Book) → Sound sum b → (v : Float) → some v ≡ sum (b .search .next) → Sound sum (noted v (followed step enough (judged v (b .search))) b)
-  keeps b p v e = keeps-by b p v e (lt v (b .search .best)) refl (followed step enough (judged v (b .search))) (followed-same step enough (judged v (b .search)))
-
-  sound : (x : List Float) (n : ℕ) → Sound sum (book sum step enough x n)
-  sound x = book-ind sum step enough (Sound sum) (λ b p. record { sums = p .sums; lowest = p .lowest; falling = p .falling; last = p .last; number = p .number; known = p .known }) keeps x (opens x)
-
   -- ---- a turn counts at most one trial
 
-  trial-count : (w : Option Float) (b : Book) → trial sum step enough w b .count ≤ b .count + 1
-  trial-count none b = omega arith
-  trial-count (some v) b = omega arith
+  noted-count : (w : Option Float) (b : Book) → noted w b .count ≤ b .count + 1
+  noted-count none b = omega arith
+  noted-count (some v) b = omega arith
 
-  turn-count : (g : Ending) (b : Book) → whileRunning g (trial sum step enough (sum (b .search .next)) b) b .count ≤ b .count + 1
-  turn-count Running b = trial-count (sum (b .search .next)) b
-  turn-count TooFar b = omega arith
-  turn-count Short b = omega arith
-  turn-count Damped b = omega arith
-  turn-count NoPivot b = omega arith
-  turn-count Converged b = omega arith
+  by-ending : (g : Ending) (t b : Book) (n : ℕ) → t .count ≤ n → b .count ≤ n → whileRunning g t b .count ≤ n
+  by-ending Running t b n p q = p
+  by-ending (Refused k) t b n p q = q
+  by-ending Short t b n p q = q
+  by-ending Damped t b n p q = q
+  by-ending Converged t b n p q = q
+
+  trial-count : (b : Book) → trial sum step enough b .count ≤ b .count + 1
+  unfolding trial
+  trial-count b = by-ending (b .ended) _ b (b .count + 1) (noted-count (sum (b .search .next)) b) (omega arith)
+
+  following-count : (b : Book) (n : ℕ) → b .count ≤ n → following sum step enough b .count ≤ n
+  unfolding following
+  following-count b n h = by-ending (b .ended) _ b n h h
 
   pub most : (x : List Float) (n : ℕ) → book sum step enough x n .count ≤ n
-  unfolding book turn opening
+  unfolding book turn openBook
   most x zero = omega arith
   most x (suc n) =
       let h = most x n in
-      let g = turn-count (book sum step enough x n .ended) (book sum step enough x n) in
-      omega arith
+      let g = trial-count (book sum step enough x n) in
+      following-count (trial sum step enough (book sum step enough x n)) (suc n) (omega arith)
 
 -- ---- a book whose best sum is not above 1e11
 
@@ -199,12 +226,15 @@ tried sum step enough x n low = ⊎-elim
       small = at-most (book sum step enough x n .search .best) largestSum (s .number) limit-number low;
       sums = s .sums;
       least = s .lowest;
-      falling = s .falling;
+      keeps = s .keeps;
+      last = s .last;
+      kept-last = k .2;
+      falling = rw (s .keeps) (falling-minima largest (book sum step enough x n .log));
       some-trial = omega (arith, k .1, counted sum step enough x n);
       most-trials = most sum step enough x n;
       logged = sym (counted sum step enough x n);
     })
     (s .known)
   where
-    s : Sound sum (book sum step enough x n)
+    s : SoundBook sum (book sum step enough x n)
     s = sound sum step enough x n

@@ -1,18 +1,19 @@
 -- The trial book of document 01: what a refinement by damped least squares (Marquardt 1963) does, trial by trial. Both
--- refinements of the fit keep one; the second's is document 01's. A set is a list of parameters. `sum` gives a set's penalised
--- sum (none is refusal 23), and `step` what follows a trial with this damping and set; `enough` says that there are as many
--- residuals as parameters.
+-- refinements of the fit keep one; the second's is document 01's. A set is a list of parameters. `sum` gives the penalised sum of a
+-- set's residuals (none is refusal 23), `step` what table and step make of this damping and set; `enough` says that there are as
+-- many residuals as parameters.
 use mathlib.Core.Path.{_≡_, refl}
 use mathlib.Core.Bool.{Bool, cond}
 use mathlib.Core.List.{List, [], _∷_, _++_}
 use mathlib.Core.Option.{Option, none, some}
 use Prim.Native.Nat.{ℕ, zero, suc, _+_}
 use lib.Ieee.{Float, lt, ofBits, round}
+use Rattle.refusal.specs.Numbers as refusal
 use Rattle.float.specs.Constant.{decimal}
 use Rattle.float.specs.Ops.{_⊗_, _⊘_, one, bits, largest}
-use Rattle.normal.specs.Step.{Outcome, next, singular, far}
+use Rattle.normal.specs.Step.{Outcome, next, short, refused}
 use Rattle.book.specs.declared.Ending.{Ending}
-use Rattle.book.specs.declared.Ending.the-variants.{Running, TooFar, Short, Damped, NoPivot, Converged}
+use Rattle.book.specs.declared.Ending.the-variants.{Running, Refused, Short, Damped, Converged}
 
 unfoldable pub ten : Float
 ten = decimal 10 0
@@ -50,7 +51,7 @@ pub record After : Type 0 where
   pub search : Search
   pub ended : Ending
 
--- ---- a trial of sum v
+-- ---- a trial
 
 -- a sum v below the best: kept with its set, and the damping divided by 10
 abbrev pub keep : Float → Search → Search
@@ -66,32 +67,35 @@ judged v s =
     cond (lt v (s .best)) (record { search = keep v s; ended = Running })
     (record { search = leave s; ended = cond (lt mostDamping (leave s .damping)) Damped Running })
 
+-- by the next set's sum, where it has one
+abbrev pub compared : Option Float → Search → After
+compared none s = record { search = s; ended = Refused refusal.far-moment }
+compared (some v) s = judged v s
+
 -- ---- what follows it
 
-abbrev pub moveBy : Search → Outcome → After
-moveBy s singular = record { search = s; ended = NoPivot }
-moveBy s far = record { search = s; ended = TooFar }
-moveBy s (next x size) =
+-- where an outcome leads the search
+abbrev pub arrival : Search → Outcome → After
+arrival s (next x size) =
     record {
       search = record { next = x; bestSet = s .bestSet; damping = s .damping; best = s .best };
       ended = cond (lt size smallStep) Converged Running;
     }
+arrival s short = record { search = s; ended = Short }
+arrival s (refused k) = record { search = s; ended = Refused k }
+
+-- refusal 23 where the set has no residuals
+abbrev pub unlessFar : Option Float → Outcome → Outcome
+unlessFar none o = refused refusal.far-moment
+unlessFar (some v) o = o
 
 -- t where it still runs, else b
 abbrev pub whileRunning : {A : Type 0} → Ending → A → A → A
 whileRunning Running t b = t
-whileRunning TooFar t b = b
+whileRunning (Refused k) t b = b
 whileRunning Short t b = b
 whileRunning Damped t b = b
-whileRunning NoPivot t b = b
 whileRunning Converged t b = b
-
-module _ (step : Float → List Float → Outcome) (enough : Bool) where
-  unfoldable pub move : Search → After
-  move s = cond enough (moveBy s (step (s .damping) (s .next))) (record { search = s; ended = Short })
-
-  unfoldable pub followed : After → After
-  followed a = whileRunning (a .ended) (move (a .search)) a
 
 -- ---- the book
 
@@ -104,8 +108,8 @@ pub record Book : Type 0 where
   pub ended : Ending
 
 -- count 0, an empty log, no set kept, the largest f64 as best; the damping is 1
-unfoldable pub opening : List Float → Book
-opening x =
+unfoldable pub openBook : List Float → Book
+openBook x =
     record {
       count = 0;
       log = [];
@@ -115,31 +119,40 @@ opening x =
       ended = Running;
     }
 
--- a trial of the next set with sum v, with where the search went after it
-abbrev pub noted : Float → After → Book → Book
-noted v a b =
+-- the book with its search gone on to where a leads
+abbrev pub goneTo : After → Book → Book
+goneTo a b = record { count = b .count; log = b .log; tried = b .tried; kept = b .kept; search = a .search; ended = a .ended }
+
+-- a trial of the next set, by its sum; refusal 23 logs and counts nothing
+abbrev pub noted : Option Float → Book → Book
+noted none b = goneTo (compared none (b .search)) b
+noted (some v) b =
     record {
       count = b .count + 1;
       log = b .log ++ (v ∷ []);
       tried = b .tried ++ (b .search .next ∷ []);
       kept = b .kept ++ cond (lt v (b .search .best)) (v ∷ []) [];
-      search = a .search;
-      ended = a .ended;
+      search = judged v (b .search) .search;
+      ended = judged v (b .search) .ended;
     }
 
--- refusal 23 of the next set: nothing is logged
-abbrev pub refused : Book → Book
-refused b = record { count = b .count; log = b .log; tried = b .tried; kept = b .kept; search = b .search; ended = TooFar }
-
 module _ (sum : List Float → Option Float) (step : Float → List Float → Outcome) (enough : Bool) where
-  abbrev pub trial : Option Float → Book → Book
-  trial none b = refused b
-  trial (some v) b = noted v (followed step enough (judged v (b .search))) b
+  -- after a trial, in the reference's order: the residuals of the set at hand, which are worked out again where the best one was
+  -- restored; their number; table and step
+  unfoldable pub onward : Search → Outcome
+  onward s = unlessFar (sum (s .next)) (cond enough (step (s .damping) (s .next)) short)
+
+  -- a turn's first half, the trial, and its second, what follows it; a fit may pause between them
+  unfoldable pub trial : Book → Book
+  trial b = whileRunning (b .ended) (noted (sum (b .search .next)) b) b
+
+  unfoldable pub following : Book → Book
+  following b = whileRunning (b .ended) (goneTo (arrival (b .search) (onward (b .search))) b) b
 
   unfoldable pub turn : Book → Book
-  turn b = whileRunning (b .ended) (trial (sum (b .search .next)) b) b
+  turn b = following (trial b)
 
   -- the book of the start x after at most n trials
   unfoldable pub book : List Float → ℕ → Book
-  book x zero = opening x
+  book x zero = openBook x
   book x (suc n) = turn (book x n)

@@ -20,7 +20,7 @@ use Rattle.residuals.specs.declared.Station.{Station}
 use Rattle.book.specs.Book.{Book}
 use Rattle.book.specs.Demand.{largestSum, All, Tried}
 use Rattle.book.proofs.Demand.{tried}
-use Rattle.trials.specs.Trials.{stepOf}
+use Rattle.refine.specs.Advance.{advanceOf}
 use Rattle.arguments.specs.Refusals as given
 use Rattle.arguments.specs.Refusals.{Room, enough, inputRefusalOf}
 use Rattle.arguments.proofs.Laws as arguments
@@ -31,7 +31,7 @@ use Rattle.fit.specs.Answer.{
   passCount,
   firstOf,
   bookOf,
-  isFar,
+  farEnding,
   biases,
   anyLarge,
   workRefusals,
@@ -91,7 +91,7 @@ passed x room e =
     let h = both-zero n (first rest) (arguments.then (x .counts) (x .times) (x .freqs) (x .centers) (x .rec) (x .a) (x .i) n rest refl ∙ e) in
     record {
       given = arguments.accepted (x .counts) (x .times) (x .freqs) (x .centers) (x .rec) (x .a) (x .i) (h .0);
-      low = low-sum (not (enough (length (x .times)) p room)) (isFar (firstOf x .ended)) (isFar (b .ended)) (lt largestSum (b .search .best))
+      low = low-sum (not (enough (length (x .times)) p room)) (farEnding (firstOf x .ended)) (farEnding (b .ended)) (lt largestSum (b .search .best))
           (anyLarge (biases 1 (b .search .bestSet) p)) (h .1);
     }
 
@@ -99,7 +99,7 @@ passed x room e =
 
 book-tried : (x : Arguments) → lt largestSum (bookOf x .search .best) ≡ false → Tried (sumIn x) 150 (bookOf x)
 unfolding trialBook refined
-book-tried x low = tried (sumIn x) (stepOf true (stationOf (observations x)) (passes (observations x))) true _ 150 low
+book-tried x low = tried (sumIn x) (advanceOf true (stationOf (observations x)) (passes (observations x))) true _ 150 low
 
 none-below : (sum : List Float → Option Float) (v : Float) (xs : List (List Float)) (l : List Float) → map sum xs ≡ map some l
     → All (λ s. lt s v ≡ false) l → anyBelow sum v xs ≡ false
@@ -168,7 +168,10 @@ module _ (x : Arguments) (w : Outputs) (p : Passed x) (t : Tried (sumIn x) 150 (
         again = again;
         small = t .small;
         least = none-below (sumIn x) (bookOf x .search .best) (bookOf x .tried) (bookOf x .log) (t .sums) (t .least);
+        kept = t .keeps;
         falling = t .falling;
+        last = t .last;
+        kept-last = t .kept-last;
       }
 
 -- ---- the theorem

@@ -3,7 +3,7 @@ use mathlib.Core.Path.{refl}
 use lib.Ieee.{neg, ofBits, round, ofInt, toUnsigned, add, sub, mul, div, lt, eq, isNan}
 use Rattle.loops.specs.Loop.{for, turns, rev, try, tried}
 use Rattle.roots.specs.Root.{sqrtOf}
-use Rattle.float.specs.Ops.{absOf, one, two, floorOf}
+use Rattle.float.specs.Ops.{absOf, one, two, floorOf, raised}
 use Rattle.moment.specs.Time.{secondsOf, unitsBetween}
 use Rattle.moment.specs.Range.{inRange}
 use Rattle.moment.specs.Sample.{timeInRange, timesInRange, shifted}
@@ -13,7 +13,7 @@ use Rattle.pass_set.specs.PassSet.{total, sizesAgree}
 use Rattle.linear.specs.Elimination.{leastPivot, largerPivot, pivotRow, swapEntries, swapRows, eliminateEntry, eliminateRow, eliminateBelow, reduceColumn, forwardElimination, addTerm, substituteRow, backSubstitution, augmentEntry, augmentRow, augmented, solutionOf}
 use Rattle.linear.specs.Answer as linear
 use Rattle.monna.specs.Rng.{drawOf}
-use Rattle.monna.specs.Digits.{monnaOf, inverseOf, distanceOf, digits, placed, taken, clampOf, margin, times, valuation, raised}
+use Rattle.monna.specs.Digits.{monnaOf, inverseOf, distanceOf, digits, placed, taken, clampOf, margin, times, valuation}
 use Rattle.monna.specs.Answers.{baseRefusal, digitsRefusal, monnaMapOf, pAdicDistanceOf, inverseMonnaMapOf}
 use Rattle.monna.specs.History.{differencesOf, differenceAt, cellOf, quotientOf, leastDistance, table}
 use Rattle.arguments.specs.Passes.{nonEmpty}

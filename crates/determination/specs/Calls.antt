@@ -3,12 +3,14 @@ use mathlib.Core.Path.{_≡_}
 use mathlib.Core.Bool.{not}
 use mathlib.Core.List.{List, [], _∷_}
 use Prim.Native.Nat.{ℕ, _<_}
+use lib.Dec.{eqb}
+use lib.ListN.{length}
 use lib.Ieee.{Float}
 use Rattle.refusal.specs.Numbers as refusal
 use Rattle.refusal.specs.Order.{first, _if_}
 use Rattle.moment.specs.Sample.{timesInRange}
 use Rattle.frame.specs.declared.Vec3.{Vec3}
-use Rattle.stored.specs.Sets.{countsIn, timesIn, freqsIn, sizedRight}
+use Rattle.stored.specs.Sets.{passesIn, countsIn, timesIn, freqsIn, sizedRight}
 use Rattle.fit.specs.Answer.{Arguments, arguments, refusedBy, Outputs, Fits}
 use Rattle.tle.specs.Answer.{Formats}
 use Rattle.tle.specs.declared.Catalog.{Catalog}
@@ -33,9 +35,15 @@ pub record Determines (x : Arguments) (w w′ : Outputs) (scratch scratch′ : L
 
 -- ---- from stored bytes
 
--- 5, then 4
-unfoldable pub bytesRefusal : List ℕ → ℕ
-bytesRefusal b = first ((refusal.sizes if not (sizedRight b)) ∷ (refusal.moment-range if not (timesInRange (timesIn b))) ∷ [])
+-- any 5 first, of the bytes or of centres that are not one per pass, then 4
+unfoldable pub bytesRefusal : List ℕ → List Float → ℕ
+bytesRefusal b centers =
+    first (
+    (refusal.sizes if not (sizedRight b))
+    ∷ (refusal.sizes if not (eqb (passesIn b) (length centers)))
+    ∷ (refusal.moment-range if not (timesInRange (timesIn b)))
+    ∷ []
+    )
 
 -- the arguments of a fit on the set that the bytes hold
 abbrev pub argumentsIn : List ℕ → List Float → Vec3 → Float → Float → Arguments
@@ -49,5 +57,5 @@ pub record Refuses (n : ℕ) (w w′ : Outputs) (scratch scratch′ : List Float
   pub same-text : text′ ≡ text
 
 pub record DeterminesStored (b : List ℕ) (centers : List Float) (rec : Vec3) (a i : Float) (w w′ : Outputs) (scratch scratch′ : List Float) (name text text′ : List ℕ) (d : Determination) : Type 0 where
-  pub refused : 0 < bytesRefusal b → Refuses (bytesRefusal b) w w′ scratch scratch′ text text′ d
-  pub determined : bytesRefusal b ≡ 0 → Determines (argumentsIn b centers rec a i) w w′ scratch scratch′ name text text′ d
+  pub refused : 0 < bytesRefusal b centers → Refuses (bytesRefusal b centers) w w′ scratch scratch′ text text′ d
+  pub determined : bytesRefusal b centers ≡ 0 → Determines (argumentsIn b centers rec a i) w w′ scratch scratch′ name text text′ d

@@ -11,7 +11,7 @@ use Rattle.moment.specs.Time.{secondsOf}
 use Rattle.moment.specs.declared.Moment.{Moment}
 use Rattle.residuals.specs.Residuals.{at, penalisedSum}
 use Rattle.residuals.specs.declared.Station.{Station}
-use Rattle.book.specs.Demand.{largestSum, Falling}
+use Rattle.book.specs.Demand.{largestSum, Falling, minima, keptSets, lastOf, lastSet}
 use Rattle.solution.specs.declared.SolvedOrbit.{SolvedOrbit}
 use Rattle.fit.specs.Fit.{Observations, stationOf, passes}
 use Rattle.fit.specs.Answer.{Arguments, observations, passCount, bookOf, biases, orbitOf, Outputs}
@@ -78,8 +78,13 @@ pub record Accepted (x : Arguments) (w w′ : Outputs) (r : Fit) : Type 0 where
   pub small : le (r .best) largestSum ≡ true
   -- 'no tried set has a smaller one'
   pub least : anyBelow (sumIn x) (r .best) (bookOf x .tried) ≡ false
+  -- the kept sums are those of the log that went below the largest f64 and below all kept before, and no others
+  pub kept : bookOf x .kept ≡ minima largest (bookOf x .log)
   -- 'each kept sum is below the one kept before', the first below the largest f64
   pub falling : Falling largest (bookOf x .kept)
+  -- the one kept last is the reported sum, and the set tried with it is the one whose orbit and biases are returned
+  pub last : lastOf largest (bookOf x .kept) ≡ r .best
+  pub kept-last : lastSet (keptSets largest (bookOf x .log) (bookOf x .tried)) ≡ some (bookOf x .search .bestSet)
 
 -- ---- if the lines are accepted too
 

@@ -1,5 +1,9 @@
 // Fit and element lines in one call, from arrays and from stored bytes. Both calls take any input.
 ghost use mathlib.Core.Path.{_≡_};
+ghost use mathlib.Core.Bool.{_&&_};
+ghost use lib.Dec.{leb, eqb};
+ghost use lib.ListN.{length};
+ghost use Rattle.stored.specs.Sets.{passesIn};
 ghost use Rattle.fit.specs.Answer.{arguments, outputs};
 ghost use Rattle.determination.specs.Calls.{noLines, Determines, DeterminesStored};
 use fit::Fit;
@@ -74,7 +78,18 @@ pub fn fit_and_format(
     Determination { fit, lines }
 }
 
-// The same on the pass set that stored bytes hold: 5, then 4, of the bytes come before the fit's own refusals.
+// Whether the bytes begin with this number of passes.
+fn begins_with(bytes: &[u8], passes: usize) -> bool
+    ensures { λ r. ⌜ r ≡ (leb 4 (length (now (bytes .entry))) && eqb (passesIn (now (bytes .entry))) passes) ⌝ }
+{
+    if bytes.len() < 4 {
+        return false;
+    }
+    stored::number::word_at(bytes, 0) as usize == passes
+}
+
+// The same on the pass set that stored bytes hold. Their 5 and that of centres that are not one per pass come before their 4, and
+// all three before the fit's own refusals.
 pub fn fit_and_format_stored(
     bytes: &[u8],
     centers: &[f64],
@@ -95,6 +110,9 @@ pub fn fit_and_format_stored(
         (outputs (now (dts .exit)) (now (dfs .exit)) (now (df1s .exit)) (now (df2s .exit)) (now (log .exit))) (now (scratch .entry)) (now (scratch .exit))
         (now (name .entry)) (now (text .entry)) (now (text .exit)) d ⌝ }
 {
+    if !begins_with(bytes, centers.len()) {
+        return unprinted(fit::refused(refusal::SIZES));
+    }
     let mut counts = [0u32; MAX_PASSES];
     let mut times = [0i64; MAX_SAMPLES];
     let mut freqs = [0.0; MAX_SAMPLES];

@@ -1,11 +1,10 @@
--- What the sums and the search write: their values, or, refused, what was there.
+-- What the sums write: their values, or, refused, what was there.
 use Prim.Native.Nat.{ℕ, zero, suc}
 use mathlib.Core.List.{List, _∷_, []}
 use lib.Ieee.{Float}
 use Rattle.approach.specs.declared.Rss.{Rss}
 use Rattle.approach.specs.declared.Gradient.{Gradient}
 use Rattle.approach.specs.declared.Gradients.{Gradients}
-use Rattle.search_call.specs.declared.Searched.{Searched}
 
 abbrev pub given : {A : Type 0} → ℕ → A → A → A
 given zero new old = new
@@ -19,6 +18,3 @@ four g = g .«grad_a» ∷ g .«grad_i» ∷ g .«grad_raan» ∷ g .«grad_u0»
 
 abbrev pub gradientValues : List Float → Gradients → List Float
 gradientValues old q = given (q .refusal) (four (q .gradient)) old
-
-abbrev pub searchValues : List Float → Searched → List Float
-searchValues old q = given (q .refusal) (q .raan0 ∷ q .u0 ∷ q .rss ∷ []) old

@@ -2,7 +2,7 @@
 ghost use mathlib.Core.Path.{_≡_};
 ghost use Prim.Native.Nat.{_*_, _%_, _^_};
 ghost use lib.Ieee.{toUnsigned, toSigned};
-ghost use Rattle.float.specs.Ops.{maxOf, minOf, absOf, signumOf, remEuclidOf, degreesOf, radiansOf, floorOf, roundOf, powerOf};
+ghost use Rattle.float.specs.Ops.{maxOf, minOf, absOf, signumOf, remEuclidOf, degreesOf, radiansOf, floorOf, roundOf};
 ghost use Rattle.float.specs.Log.{lnOf};
 
 #[no_mangle]
@@ -66,13 +66,6 @@ pub extern "C" fn wisvalom_to_radians(v: f64) -> f64
     ensures { λ r. ⌜ r ≡ radiansOf v ⌝ }
 {
     float::to_radians(v)
-}
-
-#[no_mangle]
-pub extern "C" fn wisvalom_power(v: f64, n: u64) -> f64
-    ensures { λ r. ⌜ r ≡ powerOf v n ⌝ }
-{
-    float::power(v, n)
 }
 
 #[no_mangle]

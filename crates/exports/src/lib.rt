@@ -8,7 +8,6 @@ pub mod files;
 pub mod fits;
 pub mod floats;
 pub mod maps;
-pub mod refinements;
 pub mod sets;
 pub mod sums;
 pub mod systems;

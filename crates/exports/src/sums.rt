@@ -1,14 +1,9 @@
-// Closest moments, sums of squares and the search, over a pass set in flat arrays.
+// Closest moments and sums of squares, over a pass set in flat arrays.
 ghost use mathlib.Core.Path.{_≡_};
-ghost use lib.ListN.{length};
 ghost use Rattle.approach.specs.Sums.{rssAt, gradientOf};
 ghost use Rattle.approach.specs.Answers.{refusalOf, epochOf, FindsPcas, rssAnswer, gradientAnswer};
-ghost use Rattle.search.specs.Sum.{sumOf};
-ghost use Rattle.search.specs.Search.{searchOf};
-ghost use Rattle.search_call.specs.Call.{fixedOf, searchAnswer};
-ghost use Rattle.search_call.specs.Call as call;
 ghost use Rattle.exports.specs.Answers.{moment, place};
-ghost use Rattle.exports.specs.Sums.{rssValue, gradientValues, searchValues};
+ghost use Rattle.exports.specs.Sums.{rssValue, gradientValues};
 use frame::Vec3;
 use moment::Moment;
 
@@ -140,42 +135,5 @@ pub extern "C" fn wisvalom_compute_gradient(
     }
     let g = answer.gradient;
     *out = [g.grad_a, g.grad_i, g.grad_raan, g.grad_u0];
-    0
-}
-
-// raan0, u0 and their sum. The table, which has 48,032 places or more, is written over.
-#[no_mangle]
-pub extern "C" fn wisvalom_search_starts(
-    counts: &[u32],
-    times: &[i64],
-    freqs: &[f64],
-    centers: &[f64],
-    x: f64,
-    y: f64,
-    z: f64,
-    a: f64,
-    i: f64,
-    table: &mut [f64],
-    out: &mut [f64; 3],
-) -> u32
-    ensures { λ r. ⌜ r ≡ searchAnswer (call.refusalOf (now (counts .entry)) (now (times .entry)) (now (freqs .entry)) (now (centers .entry)) (length (now (table .entry))))
-        (searchOf (sumOf (now (counts .entry)) (now (times .entry)) (now (freqs .entry)) (now (centers .entry)) (fixedOf (now (times .entry)) (now (centers .entry)) (place x y z) a i)) 0 144) .refusal ⌝ }
-    ensures { λ _. ⌜ now (out .exit) ≡ searchValues (now (out .entry)) (searchAnswer (call.refusalOf (now (counts .entry)) (now (times .entry)) (now (freqs .entry)) (now (centers .entry)) (length (now (table .entry))))
-        (searchOf (sumOf (now (counts .entry)) (now (times .entry)) (now (freqs .entry)) (now (centers .entry)) (fixedOf (now (times .entry)) (now (centers .entry)) (place x y z) a i)) 0 144)) ⌝ }
-{
-    let answer = search_call::search_starts(
-        counts,
-        times,
-        freqs,
-        centers,
-        Vec3 { x, y, z },
-        a,
-        i,
-        table,
-    );
-    if answer.refusal != 0 {
-        return answer.refusal;
-    }
-    *out = [answer.raan0, answer.u0, answer.rss];
     0
 }

@@ -17,7 +17,7 @@ use Rattle.frame.specs.declared.Vec3.{Vec3}
 use Rattle.book.specs.Book.{Search, Book}
 use Rattle.book.proofs.Books.{counted}
 use Rattle.book.proofs.Demand.{most}
-use Rattle.trials.specs.Trials.{searchOf, RunsTo}
+use Rattle.trials.specs.Trials.{stateSearch, RunsTo}
 use Rattle.trials.specs.declared.Trials.{Trials}
 use Rattle.arguments.specs.Passes.{nonEmpty, centerOf, Compacts}
 use Rattle.arguments.specs.declared.NonEmpty.{NonEmpty}
@@ -84,7 +84,7 @@ is-zero n a h = rw h
 
 -- ---- the trial book's answer
 
-found-answer : (m : ℕ) (b : Book) (t : Trials) (old sums : List Float) (times : List ℤ) (r : Fit) → m ≡ 0 → RunsTo b old sums t → r ≡ foundBy (searchOf (t .state)) (t .count) times
+found-answer : (m : ℕ) (b : Book) (t : Trials) (old sums : List Float) (times : List ℤ) (r : Fit) → m ≡ 0 → RunsTo b old sums t → r ≡ foundBy (stateSearch (t .state)) (t .count) times
     → r ≡ answer m b times
 unfolding answer
 found-answer m b t old sums times r e run is = rw (e, ← run .search, ← run .count) is

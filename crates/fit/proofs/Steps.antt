@@ -1,6 +1,6 @@
 -- The steps of the fit, joined to its definitions. Assumes nothing.
-use mathlib.Core.Path.{_≡_, sym, ap, _∙_}
-use mathlib.Core.Bool.{Bool, true, false}
+use mathlib.Core.Path.{_≡_, refl, sym, ap, _∙_}
+use mathlib.Core.Bool.{Bool, true, false, cond}
 use mathlib.Core.List.{List, [], _∷_}
 use Prim.Native.Nat.{ℕ, _+_, _*_, _≤_, _<_}
 use native.Mathlib.Nat.{le-trans, mul-le-mul, mul-le-mul-left}
@@ -10,6 +10,8 @@ use lib.IntN.{ℤ}
 use lib.ListN.{length, getD, take}
 use lib.Seq.{length-take-le}
 use lib.Ieee.{Float}
+use borrow.Author.Tests.{ne-eqb}
+use Rattle.refusal.specs.Numbers as refusal
 use Rattle.refusal.specs.Order.{first}
 use Rattle.moment.specs.Range.{Within}
 use Rattle.moment.specs.Sample.{Timed}
@@ -25,16 +27,19 @@ use Rattle.residuals.specs.Samples.{passesOf, countsAt, Dated, Rotations}
 use Rattle.residuals.specs.Residuals.{rowsOf, placeOf, elementsOf, penalisedSum}
 use Rattle.residuals.specs.declared.Station.{Station}
 use Rattle.residuals.proofs.Samples.{counts-length, counts-dated}
+use Rattle.refine.specs.Advance.{advanceOf}
 use Rattle.book.specs.Book.{Search, book}
+use Rattle.book.specs.declared.Ending.{Ending}
+use Rattle.book.specs.declared.Ending.the-variants.{Refused}
 use Rattle.trials.specs.Trials as trials
-use Rattle.trials.specs.Trials.{stepOf, RunsTo, Fits}
+use Rattle.trials.specs.Trials.{RunsTo, Runs, Fits}
 use Rattle.trials.specs.declared.Trials.{Trials}
 use Rattle.trials.specs.declared.State.{State}
 use Rattle.start.specs.Start.{startingSet}
 use Rattle.start.proofs.Given.{first-passes}
 use Rattle.arguments.specs.Refusals.{scratchSize}
 use Rattle.fit.specs.Fit.{Observations, observed, epochOf, firstTwo, bestStart, startElements, refined, refinedTwo, firstBook, trialBook}
-use Rattle.fit.specs.Answer.{isFar, searchRefusals}
+use Rattle.fit.specs.Answer.{farEnding, farRefusal, searchRefusals}
 use Rattle.fit.specs.Work.{Refines, Two, Given, Ends, Solves}
 
 -- ---- the start
@@ -71,14 +76,14 @@ module _ {second : Bool} {most : ℕ} {counts : List ℕ} {times : List ℤ} {fr
         table = rw (same, e) (s .table);
       }
 
-pub runs-refined : (second enough : Bool) (most : ℕ) (e : Elements) (x : Observations) (moments : List ℕ) (epoch : Instant) (start old log : List Float) (t : Trials)
+pub runs-refined : (second enough : Bool) (most : ℕ) (e : Elements) (x : Observations) (moments : List ℕ) (epoch : Instant) (start old log : List Float) (cells : ℕ) (scratch scratch′ : List Float) (t : Trials)
     → moments ≡ countsAt (x .times) → epoch ≡ epochOf x
     → start ≡ startingSet (x .counts) (x .times) (x .freqs) (x .center) (x .rec) epoch e second
-    → RunsTo (book (penalisedSum second (record { epoch = epoch; «center_freq» = x .center; «rec_ecef» = x .rec }) (passesOf (x .counts) moments (x .freqs)))
-    (stepOf second (record { epoch = epoch; «center_freq» = x .center; «rec_ecef» = x .rec }) (passesOf (x .counts) moments (x .freqs))) enough start most) old log t
+    → Runs (book (penalisedSum second (record { epoch = epoch; «center_freq» = x .center; «rec_ecef» = x .rec }) (passesOf (x .counts) moments (x .freqs)))
+    (advanceOf second (record { epoch = epoch; «center_freq» = x .center; «rec_ecef» = x .rec }) (passesOf (x .counts) moments (x .freqs))) enough start most) old log cells scratch scratch′ t
     → RunsTo (refined second enough most e x) old log t
 unfolding refined
-runs-refined second enough most e x moments epoch start old log t m q s r = rw (s, q, m) at r
+runs-refined second enough most e x moments epoch start old log cells scratch scratch′ t m q s r = rw (s, q, m) at (r .runs)
 
 -- ---- two passes
 
@@ -155,12 +160,35 @@ second-runs : (x : Observations) (a i : Float) (old log : List Float) (k : Eleme
 unfolding trialBook
 second-runs x a i old log k t e r = rw e at r
 
-module _ (x : Observations) (a i : Float) (old log : List Float) (s : State) (e : Ends (firstBook a i x) s) where
-  pub solves-far : (t : Trials) → isFar (s .ended) ≡ true → Solves x a i old log (record { refusal = 23; trials = t })
-  solves-far t h = record { refused = rw (← e .ended, h); runs = λ z. absurd (omega (arith, z)) }
+-- ---- the refusal that an ending gives
 
-  pub solves : (r : ℕ) (t : Trials) (k : Elements) → isFar (s .ended) ≡ false → k ≡ elementsOf (s .«best_params») → RunsTo (refined true true 150 k x) old log t
-      → r ≡ first (searchRefusals (t .state .ended) (trials.searchOf (t .state)) (length (x .counts))) → Solves x a i old log (record { refusal = r; trials = t })
+pub not-carried : (e : Ending) (k : ℕ) → e ≡ Refused k → (k ≡ refusal.far-moment → ⊥) → 0 ≡ farRefusal e
+not-carried e k is h = rw (is, ne-eqb k refusal.far-moment h)
+
+module _ (r : ℕ) (e : Ending) (is : r ≡ farRefusal e) where
+  by-test : (b : Bool) → r ≡ cond b refusal.far-moment 0 → (r ≡ 0 → ⊥) → (r ≡ refusal.far-moment) × (b ≡ true)
+  by-test true h z = (h, refl)
+  by-test false h z = absurd (z h)
+
+  pub far-number : (r ≡ 0 → ⊥) → r ≡ refusal.far-moment
+  far-number z = by-test (farEnding e) is z .0
+
+  pub far-ended : (r ≡ 0 → ⊥) → farEnding e ≡ true
+  far-ended z = by-test (farEnding e) is z .1
+
+  pub not-far : r ≡ 0 → farEnding e ≡ false
+  not-far z = go (farEnding e) is
+    where
+      go : (b : Bool) → r ≡ cond b refusal.far-moment 0 → b ≡ false
+      go true h = absurd (omega (arith, z, h))
+      go false h = refl
+
+module _ (x : Observations) (a i : Float) (old log : List Float) (s : State) (e : Ends (firstBook a i x) s) where
+  pub solves-far : (r : ℕ) (t : Trials) → r ≡ farRefusal (s .ended) → (r ≡ 0 → ⊥) → Solves x a i old log (record { refusal = r; trials = t })
+  solves-far r t h z = record { refused = rw (← e .ended, far-ended r (s .ended) h z) (far-number r (s .ended) h z); runs = λ y. absurd (z y) }
+
+  pub solves : (r : ℕ) (t : Trials) (k : Elements) → farEnding (s .ended) ≡ false → k ≡ elementsOf (s .«best_params») → RunsTo (refined true true 150 k x) old log t
+      → r ≡ first (searchRefusals (t .state .ended) (trials.stateSearch (t .state)) (length (x .counts))) → Solves x a i old log (record { refusal = r; trials = t })
   solves r t k h q run is =
       let b = second-runs x a i old log k t (q ∙ ap (λ (y : Search). elementsOf (y .bestSet)) (e .search)) run in
       record { refused = rw (← e .ended, h, ← b .ended, ← b .search) is; runs = λ z. b }

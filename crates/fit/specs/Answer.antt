@@ -1,8 +1,9 @@
 -- What the fit answers and writes, for every input.
 use mathlib.Core.Path.{_≡_, refl}
-use mathlib.Core.Bool.{Bool, true, false, not, _||_}
+use mathlib.Core.Bool.{Bool, false, not, _||_}
 use mathlib.Core.List.{List, [], _∷_, _++_}
 use Prim.Native.Nat.{ℕ, zero, suc, _+_, _*_}
+use lib.Dec.{eqb}
 use lib.IntN.{ℤ, pos}
 use lib.ListN.{length, getD, drop, replicate}
 use lib.Ieee.{Float, lt, ofBits, round}
@@ -17,7 +18,7 @@ use Rattle.residuals.specs.Residuals.{at}
 use Rattle.book.specs.Book.{Search, Book}
 use Rattle.book.specs.Demand.{largestSum}
 use Rattle.book.specs.declared.Ending.{Ending}
-use Rattle.book.specs.declared.Ending.the-variants.{Running, TooFar, Short, Damped, NoPivot, Converged}
+use Rattle.book.specs.declared.Ending.the-variants.{Running, Refused, Short, Damped, Converged}
 use Rattle.arguments.specs.Passes.{nonEmpty, centerOf}
 use Rattle.arguments.specs.Refusals as given
 use Rattle.arguments.specs.Refusals.{Room, inputRefusals, enough}
@@ -55,13 +56,16 @@ bookOf x = trialBook (radius (observations x)) (x .i) (observations x)
 
 -- ---- refusals
 
-abbrev pub isFar : Ending → Bool
-isFar Running = false
-isFar TooFar = true
-isFar Short = false
-isFar Damped = false
-isFar NoPivot = false
-isFar Converged = false
+-- whether a refinement ended by 23; the solver's 22 ends one and refuses no fit
+abbrev pub farEnding : Ending → Bool
+farEnding Running = false
+farEnding (Refused k) = eqb k refusal.far-moment
+farEnding Short = false
+farEnding Damped = false
+farEnding Converged = false
+
+abbrev pub farRefusal : Ending → ℕ
+farRefusal ended = first ((refusal.far-moment if farEnding ended) ∷ [])
 
 -- 500 kHz
 unfoldable pub largestOffset : Float
@@ -84,14 +88,14 @@ anyLarge (d ∷ ds) = lt largestOffset (absOf d) || anyLarge ds
 -- above 500 kHz
 abbrev pub searchRefusals : Ending → Search → ℕ → List Refusal
 searchRefusals ended s passes =
-    (refusal.far-moment if isFar ended)
+    (refusal.far-moment if farEnding ended)
     ∷ (refusal.large-sum if lt largestSum (s .best))
     ∷ (refusal.large-offset if anyLarge (biases 1 (s .bestSet) passes))
     ∷ []
 
 -- while it works: 23 comes from either refinement
 abbrev pub workRefusals : Book → Book → ℕ → List Refusal
-workRefusals b c passes = (refusal.far-moment if isFar (b .ended)) ∷ searchRefusals (c .ended) (c .search) passes
+workRefusals b c passes = (refusal.far-moment if farEnding (b .ended)) ∷ searchRefusals (c .ended) (c .search) passes
 
 -- all, in document 01's order: of the input, of the lent memory, and of the work
 unfoldable pub refusalOf : Arguments → Room → ℕ

@@ -19,8 +19,8 @@ use Rattle.search.specs.declared.Found.{Found}
 use Rattle.residuals.specs.Samples.{Passes, passesOf, countsAt}
 use Rattle.residuals.specs.Residuals.{elementsOf, rowsOf, penalisedSum}
 use Rattle.residuals.specs.declared.Station.{Station}
+use Rattle.refine.specs.Advance.{advanceOf}
 use Rattle.book.specs.Book.{Book, book}
-use Rattle.trials.specs.Trials.{stepOf}
 use Rattle.start.specs.Start.{radiusEstimate, startingSet}
 
 -- what is observed: the counts of the non-empty passes, all samples, the first non-empty pass's centre, and the receiver
@@ -70,7 +70,7 @@ startElements a i x = record { a = a; i = i; raan0 = bestStart a i x .raan0; u0 
 -- a refinement of the passes x from these elements, of at most n trials
 unfoldable pub refined : Bool → Bool → ℕ → Elements → Observations → Book
 refined second enough n e x =
-    book (penalisedSum second (stationOf x) (passes x)) (stepOf second (stationOf x) (passes x)) enough
+    book (penalisedSum second (stationOf x) (passes x)) (advanceOf second (stationOf x) (passes x)) enough
     (startingSet (x .counts) (x .times) (x .freqs) (x .center) (x .rec) (epochOf x) e second) n
 
 -- search and first refinement of two passes x: it ends at once where it has fewer residuals than its 8 parameters

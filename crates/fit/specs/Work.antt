@@ -10,7 +10,7 @@ use Rattle.refusal.specs.Order.{first}
 use Rattle.moment.specs.Sample.{Timed}
 use Rattle.residuals.specs.Residuals.{placeOf, rowsOf}
 use Rattle.book.specs.Book.{Book}
-use Rattle.trials.specs.Trials.{searchOf, RunsTo}
+use Rattle.trials.specs.Trials.{stateSearch, RunsTo}
 use Rattle.trials.specs.declared.State.{State}
 use Rattle.trials.specs.declared.Trials.{Trials}
 use Rattle.arguments.specs.Refusals.{scratchSize}
@@ -44,7 +44,7 @@ pub record Given (counts : List ℕ) (times : List ℤ) (freqs : List Float) (sc
 
 -- a state is where a book ended
 pub record Ends (b : Book) (s : State) : Type 0 where
-  pub search : searchOf s ≡ b .search
+  pub search : stateSearch s ≡ b .search
   pub ended : s .ended ≡ b .ended
 
 -- the work's refusal; without one, its trials are the trial book
@@ -66,5 +66,5 @@ pub record Holds (count n : ℕ) (times : List ℤ) (sums : List Float) (o : Out
 
 -- the answer of these trials, and the outputs
 pub record Puts (t : Trials) (n : ℕ) (times : List ℤ) (sums : List Float) (o o′ : Outputs) (r : Fit) : Type 0 where
-  pub answered : r ≡ foundBy (searchOf (t .state)) (t .count) times
+  pub answered : r ≡ foundBy (stateSearch (t .state)) (t .count) times
   pub written : o′ ≡ filled (t .state .«best_params») n (take (t .count) sums) o

@@ -9,22 +9,21 @@ ghost use lib.Ieee.{lt};
 ghost use Rattle.refusal.specs.Order.{first};
 ghost use Rattle.float.specs.Ops.{absOf};
 ghost use Rattle.moment.specs.Sample.{Timed};
-ghost use Rattle.trials.specs.Trials.{searchOf, RunsTo};
+ghost use Rattle.trials.specs.Trials.{stateSearch, RunsTo};
 ghost use Rattle.fit.specs.Fit.{observed, startElements, refined, refinedTwo, firstBook};
-ghost use Rattle.fit.specs.Answer.{arguments, isFar, largestOffset, biases, anyLarge, searchRefusals, orbitOf, refusedBy, outputs, Fits};
+ghost use Rattle.fit.specs.Answer.{arguments, farRefusal, largestOffset, biases, anyLarge, searchRefusals, orbitOf, refusedBy, outputs, Fits};
 ghost use Rattle.fit.specs.Work.{Refines, Two, Given, Ends, Solves, Holds, Puts};
 use arguments::MAX_TRIALS;
 use book::Ending;
 use frame::Vec3;
 use moment::Moment;
 use orbit::Elements;
+use pass_set::MAX_SAMPLES;
 use residuals::PARAMS;
 use residuals::Station;
 use solution::SolvedOrbit;
 use trials::State;
 use trials::Trials;
-
-const MAX_SAMPLES: usize = 4096;
 
 // A refusal's number with zeros, or 0 with the orbit, the number of trials and the best sum.
 pub struct Fit {
@@ -179,16 +178,21 @@ fn refine_first(
     )
 }
 
-fn too_far(e: Ending) -> bool
-    ensures { λ r. ⌜ r ≡ isFar e ⌝ }
+// The refusal that a refinement's ending gives the fit, or 0: 23 is carried on, while the solver's 22 ended the refinement and no more.
+fn far_refusal(e: Ending) -> u32
+    ensures { λ r. ⌜ r ≡ farRefusal e ⌝ }
 {
     match e {
-        Ending::Running => false,
-        Ending::TooFar => true,
-        Ending::Short => false,
-        Ending::Damped => false,
-        Ending::NoPivot => false,
-        Ending::Converged => false,
+        Ending::Running => 0,
+        Ending::Refused(number) => {
+            if number == refusal::FAR_MOMENT {
+                return number;
+            }
+            0
+        }
+        Ending::Short => 0,
+        Ending::Damped => 0,
+        Ending::Converged => 0,
     }
 }
 
@@ -218,11 +222,12 @@ fn any_large(x: [f64; PARAMS], passes: usize) -> bool
 // The refusal of a second refinement that ended in this state, or 0.
 fn state_refusal(s: State, passes: usize) -> u32
     requires { ⌜ passes ≤ 16 ⌝ }
-    ensures { λ r. ⌜ r ≡ first (searchRefusals (s .ended) (searchOf s) passes) ⌝ }
+    ensures { λ r. ⌜ r ≡ first (searchRefusals (s .ended) (stateSearch s) passes) ⌝ }
 {
     let e = s.ended;
-    if too_far(e) {
-        return refusal::FAR_MOMENT;
+    let far = far_refusal(e);
+    if far != 0 {
+        return far;
     }
     if s.best > 1e11 {
         return refusal::LARGE_SUM;
@@ -253,9 +258,10 @@ fn refine_both(
     let ended = s.ended;
     let refined = s.best_params;
     let e = residuals::elements_of(refined);
-    if too_far(ended) {
+    let far = far_refusal(ended);
+    if far != 0 {
         return Solved {
-            refusal: refusal::FAR_MOMENT,
+            refusal: far,
             trials: Trials { count: 0, state: s },
         };
     }

@@ -10,8 +10,8 @@ use native.Mathlib.Omega.{arith}
 use borrow.Author.Tests.{eq-eqb, ne-eqb, eqb-true, eqb-false}
 use lib.Dec.{eqb, lit<}
 use lib.Ieee.{Float, toUnsigned}
-use Rattle.float.specs.Ops.{_⊕_, _⊖_, _⊗_, _⊘_, floorOf}
-use Rattle.monna.specs.Digits.{Base, num, digits, placed, clampOf, inverseOf, taken, times, raised, valuation, gap}
+use Rattle.float.specs.Ops.{_⊕_, _⊖_, _⊗_, _⊘_, floorOf, raised}
+use Rattle.monna.specs.Digits.{Base, num, digits, placed, clampOf, inverseOf, taken, times, valuation, gap}
 
 smaller : (p v : ℕ) → 2 ≤ p → suc v / p ≤ v
 smaller p v h = let l : suc v / p < suc v = div-lt-self (zero-lt-suc v) h in omega arith

@@ -4,11 +4,11 @@ use mathlib.Core.Path.{_≡_, refl}
 use mathlib.Core.List.{[], _∷_}
 use lib.Ieee.{nan, neg, ofBits, round, ofInt, toUnsigned, add, sub, mul, div, lt}
 use Rattle.float.specs.Constant.{decimal}
-use Rattle.float.specs.Ops.{bits, one, one-bits, floorOf}
+use Rattle.float.specs.Ops.{bits, one, one-bits, floorOf, raised}
 use Rattle.roots.specs.Root.{sqrtOf}
 use Rattle.loops.specs.Loop.{for, turns}
 use Rattle.monna.specs.Rng.{nextState}
-use Rattle.monna.specs.Digits.{monnaOf, inverseOf, distanceOf, digits, placed, taken, clampOf, margin, times, valuation, raised}
+use Rattle.monna.specs.Digits.{monnaOf, inverseOf, distanceOf, digits, placed, taken, clampOf, margin, times, valuation}
 use Rattle.monna.specs.Answers.{baseRefusal, digitsRefusal, historyRefusal}
 use Rattle.monna.specs.History.{differencesOf, differenceAt, cellOf, quotientOf, leastDistance, table}
 

@@ -8,7 +8,7 @@ use lib.IntN.{pos}
 use lib.ListN.{getD}
 use lib.Ieee.{Float, nan, binary64, ofInt, toUnsigned, lt, ofBits, round}
 use Rattle.float.specs.Constant.{decimal}
-use Rattle.float.specs.Ops.{_⊕_, _⊖_, _⊗_, _⊘_, bits, one, minOf, absOf, floorOf}
+use Rattle.float.specs.Ops.{_⊕_, _⊖_, _⊗_, _⊘_, bits, one, minOf, absOf, floorOf, raised}
 
 -- a base that is not refused, as a test and as a fact
 abbrev pub isBase : ℕ → Bool
@@ -73,11 +73,6 @@ times (suc k) true p d = suc (times k (eqb (d / p % p) 0) p (d / p))
 
 unfoldable pub valuation : ℕ → ℕ → ℕ
 valuation p d = times d (eqb (d % p) 0) p d
-
--- acc×x×x×.., k times: powers are repeated products
-unfoldable pub raised : Float → ℕ → Float → Float
-raised x zero acc = acc
-raised x (suc k) acc = raised x k (acc ⊗ x)
 
 -- |a − b|
 abbrev pub gap : ℕ → ℕ → ℕ

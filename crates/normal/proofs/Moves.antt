@@ -16,7 +16,7 @@ use Rattle.linear.specs.declared.Solution.{Solution}
 use Rattle.linear.specs.declared.Solution.the-variants.{Found, Refused}
 use Rattle.linear.proofs.Answers.{worked}
 use Rattle.normal.specs.Normal.{Grid, tableEntry, jtjOf, jtrOf}
-use Rattle.normal.specs.Step.{Outcome, next, singular, damped, scales, scaled, divided, subtracted, held, largestStep, moveBy, finish, solveStep, stepOf}
+use Rattle.normal.specs.Step.{Outcome, next, refused, damped, scales, scaled, divided, subtracted, held, largestStep, moveBy, finish, solveStep, stepOf}
 
 -- x moved to x₁, held to x₂, and the step's size
 pub taken : (n : ℕ) (delta x x₁ x₂ : List Float) (size : Float) → x₁ ≡ subtracted n delta x → x₂ ≡ held x₁ → size ≡ largestStep n x₂ delta → next x₂ size ≡ moveBy n x delta
@@ -38,10 +38,10 @@ module _ (n : ℕ) (a v o o′ s s′ : List Float) (r : Solution) (grid : Grid 
       go none q p = cc
       go (some y) q p = ap some (sym (p ∙ ap (y ++_) (ap (λ (j : ℕ). drop j o) (sym eo) ∙ drop-length o) ∙ append-nil y))
 
-  pub no-pivot : (second : Bool) (f x : List Float) (k : ℕ) → r ≡ Refused k → singular ≡ finish second n f x (solutionOf n a v)
+  pub no-pivot : (second : Bool) (f x : List Float) (k : ℕ) → r ≡ Refused k → refused refusal.small-pivot ≡ finish second n f x (solutionOf n a v)
   no-pivot second f x k e = go (solutionOf n a v) answered
     where
-      go : (t : Option (List Float)) → r ≡ answerOf (cond (isSome t) 0 refusal.small-pivot) → singular ≡ finish second n f x t
+      go : (t : Option (List Float)) → r ≡ answerOf (cond (isSome t) 0 refusal.small-pivot) → refused refusal.small-pivot ≡ finish second n f x t
       go none q = refl
       go (some y) q = cc
 

@@ -7,6 +7,7 @@ use mathlib.Core.Option.{Option, none, some}
 use Prim.Native.Nat.{ℕ, _+_, _*_}
 use lib.ListN.{set, replicate}
 use lib.Ieee.{Float, lt, ofBits, round}
+use Rattle.refusal.specs.Numbers as refusal
 use Rattle.float.specs.Constant.{decimal}
 use Rattle.float.specs.Ops.{_⊕_, _⊖_, _⊗_, _⊘_, bits, one, maxOf, minOf, absOf}
 use Rattle.float.specs.Trig.{pi}
@@ -83,10 +84,11 @@ relative x delta k largest = maxOf largest (absOf (at delta k) ⊘ maxOf (absOf 
 unfoldable pub largestStep : ℕ → List Float → List Float → Float
 largestStep n x delta = for 0 n (relative x delta) (bits 0)
 
--- what follows a trial: the next set and the step's size, or a pivot refusal, or refusal 23
+-- what follows a trial: the next set and the step's size; too few residuals; or a refusal by its number, the solver's 22 or 23
 pub data Outcome : Type 0 where
   next : List Float → Float → Outcome
-  singular far : Outcome
+  short : Outcome
+  refused : ℕ → Outcome
 
 -- from the set x by the step delta
 abbrev pub moveBy : ℕ → List Float → List Float → Outcome
@@ -97,7 +99,7 @@ abbrev pub unscaled : Bool → ℕ → List Float → List Float → List Float
 unscaled second n f s = cond second (divided n f s) s
 
 abbrev pub finish : Bool → ℕ → List Float → List Float → Option (List Float) → Outcome
-finish second n f x none = singular
+finish second n f x none = refused refusal.small-pivot
 finish second n f x (some s) = moveBy n x (unscaled second n f s)
 
 -- with the damped matrix a and the right side v

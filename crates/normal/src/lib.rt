@@ -31,10 +31,9 @@ ghost use Rattle.normal.specs.Step.{
   stepOf,
 };
 ghost use Rattle.normal.specs.Answers.{outcome, outcomeOf};
+use residuals::PARAMS;
 
-// Parameters of 16 passes, and places of their elimination.
-const PARAMS: usize = 68;
-
+// Places of the elimination of so many parameters.
 const ROOM: usize = 4692;
 
 // Where row r, column c of a flat matrix of `rows` rows and n columns is.
@@ -276,11 +275,13 @@ fn take_step(delta: &[f64], n: usize, x: &mut [f64]) -> f64
     largest_step(x, delta, n)
 }
 
-// Where a step leads: to the next set, with the step's size; or a pivot refusal; or refusal 23.
+// Where a step leads: to the next set, with the step's size; nowhere, for want of residuals, which the caller tests; nowhere, by the
+// solver's refusal 22; or to the refusal of this number, which the residuals gave.
 pub enum Step {
     Next(f64),
+    Short,
     Singular,
-    TooFar,
+    Refused(u32),
 }
 
 // The system a δ = v solved, and x moved by the solution; in the second refinement it is divided by the scales f.

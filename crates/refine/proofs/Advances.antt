@@ -1,27 +1,28 @@
 -- What the calls of `advance` make of a step. Assumes nothing.
-use mathlib.Core.Path.{_≡_, _∙_}
+use mathlib.Core.Path.{_≡_, ap, _∙_}
 use mathlib.Core.Bool.{Bool, true, false}
 use mathlib.Core.List.{List, _++_}
 use Prim.Native.Nat.{ℕ, _+_, _*_, _≤_}
 use native.Mathlib.Nat.{mul-le-mul}
 use native.Mathlib.Omega.{arith}
-use lib.ListN.{length, take}
-use lib.Seq.{take-at, length-take-le}
+use lib.ListN.{length, take, drop}
+use lib.Seq.{take-at, drop-at, length-take-le}
 use lib.Ieee.{Float}
-use Rattle.loops.specs.Loop.{try, Made}
+use Rattle.loops.specs.Loop.{try}
 use Rattle.linear.specs.Elimination.{at}
 use Rattle.residuals.specs.Samples.{Passes, Samples}
 use Rattle.residuals.specs.Residuals.{placeOf, rowsOf, residuals}
-use Rattle.residuals.specs.Answers.{Summed}
+use Rattle.residuals.specs.Answers.{Filled, Summed}
 use Rattle.residuals.specs.declared.Station.{Station}
 use Rattle.residuals.specs.declared.Sum.{Sum}
 use Rattle.residuals.specs.declared.Sum.the-variants.{Value}
 use Rattle.residuals.proofs.Laws.{summed-known}
 use Rattle.normal.specs.Normal.{tableEntry}
-use Rattle.normal.specs.Step.{Outcome, far, stepOf}
+use Rattle.normal.specs.Step.{Outcome, refused, stepOf}
 use Rattle.normal.proofs.Same.{step-same}
 use Rattle.refine.specs.Jacobian.{epsOf, residualAt, entryOf, columnOf}
-use Rattle.refine.specs.Advance.{advanceOf, Ready}
+use Rattle.refine.specs.Advance.{advanceOf, cellsOf, Ready}
+use Rattle.refine.proofs.Columns.{refused-far}
 use Rattle.refine.proofs.Table.{table-far, table-done}
 
 -- ---- sizes
@@ -84,18 +85,24 @@ module _ (second : Bool) (g : Station) (d : Passes) (turns x r : List Float) (ro
   unfolding residualAt
   residual-is row = rw (← ready .known)
 
-  module _ (lambda : Float) (ok : Bool) (t u : List Float) (l : length t ≡ length r * n)
-      (made : Made ok u (try 0 n (columnOf (epsOf second) (residuals second g d) x r (length r) n) t)) where
-    pub advance-far : ok ≡ false → far ≡ advanceOf second g d lambda x
+  -- the scratch s′ has the table u at its front, and behind it what s had
+  pub behind : (u s s′ : List Float) → length u ≡ length r * n → s′ ≡ u ++ drop (length r * n) s → drop (cellsOf second d) s′ ≡ drop (cellsOf second d) s
+  behind u s s′ l e = rw (← en, ← ready .rows, e) (drop-at u (drop (length r * n) s) (length r * n) l)
+
+  module _ (lambda : Float) (k : ℕ) (t u : List Float) (l : length t ≡ length r * n)
+      (made : Filled k u (try 0 n (columnOf (epsOf second) (residuals second g d) x r (length r) n) t)) where
+    pub advance-far : (k ≡ 0 → ⊥) → refused k ≡ advanceOf second g d lambda x
     unfolding advanceOf
-    advance-far e = rw (← en, table-far (epsOf second) (residuals second g d) x r (length r) n (ready .known) ok t u l e made)
+    advance-far h =
+        rw (← en, table-far (epsOf second) (residuals second g d) x r (length r) n (ready .known) k t u l h made)
+        (ap refused (refused-far k u _ made h))
 
     -- s is the scratch with the table at its front
-    pub advance-done : (s rest : List Float) (w : Outcome) → ok ≡ true → s ≡ u ++ rest
+    pub advance-done : (s rest : List Float) (w : Outcome) → k ≡ 0 → s ≡ u ++ rest
         → w ≡ stepOf second (length r) n (tableEntry n (take (length r * n) s)) (at r) lambda x → w ≡ advanceOf second g d lambda x
     unfolding advanceOf
     advance-done s rest w e es ew =
-        let tab = table-done (epsOf second) (residuals second g d) x r (length r) n (ready .known) ok t u l e made in
+        let tab = table-done (epsOf second) (residuals second g d) x r (length r) n (ready .known) k t u l e made in
         let front : take (length r * n) s ≡ u = rw es (take-at u rest (length r * n) (tab .long)) in
         let stepped : stepOf second (length r) n (tableEntry n u) (at r) lambda x ≡ stepOf second (length r) n (entryOf (epsOf second) (residuals second g d) x) (residualAt (residuals second g d) x) lambda x
         = step-same (length r) n (tableEntry n u) (entryOf (epsOf second) (residuals second g d) x) (at r) (residualAt (residuals second g d) x) (tab .holds) (λ row h. residual-is row) second lambda x in

@@ -10,11 +10,13 @@ use native.Mathlib.Omega.{arith}
 use lib.ListN.{length, length-set}
 use lib.Seq.{getD-set-same, getD-set-other}
 use lib.Ieee.{Float, nan}
-use Rattle.loops.specs.Loop.{for, next, tried, try, Made}
+use Rattle.loops.specs.Loop.{for, next, tried, try}
 use Rattle.loops.proofs.Laws.{for-ind}
 use Rattle.linear.specs.Elimination.{at}
+use Rattle.residuals.specs.Answers.{Filled}
 use Rattle.refine.specs.Jacobian.{perturbedOf, quotient, isFar, entryOf, anyFar, putEntry, putColumn, columnOf}
 use Rattle.normal.proofs.Places.{place-below, apart}
+use Rattle.refine.proofs.Columns.{refused-none}
 
 -- ---- one column
 
@@ -97,8 +99,8 @@ module _ (eps : ℕ → Float) (res : List Float → Option (List Float)) (x r :
   unfolding try
   whole t l = rw sub-zero (through n 0 t (omega arith) (record { long = l; done = λ row j h hj k. absurd (not-suc-le-zero k) }))
 
-  pub table-far : (ok : Bool) (t u : List Float) → length t ≡ m * n → ok ≡ false → Made ok u (try 0 n (columnOf eps res x r m n) t) → anyFar eps res x n 0 ≡ true
-  table-far ok t u l e p = go (try 0 n (columnOf eps res x r m n) t) (anyFar eps res x n 0) (rw e at (p .made)) (whole t l)
+  pub table-far : (k : ℕ) (t u : List Float) → length t ≡ m * n → (k ≡ 0 → ⊥) → Filled k u (try 0 n (columnOf eps res x r m n) t) → anyFar eps res x n 0 ≡ true
+  table-far k t u l h p = go (try 0 n (columnOf eps res x r m n) t) (anyFar eps res x n 0) (refused-none k u _ p h) (whole t l)
     where
       go : (o : Option (List Float)) (b : Bool) → none ≡ o → Result o b → b ≡ true
       go none b q refused = refl
@@ -109,8 +111,8 @@ module _ (eps : ℕ → Float) (res : List Float → Option (List Float)) (x r :
     pub long : length u ≡ m * n
     pub holds : (row j : ℕ) → row < m → j < n → at u (row * n + j) ≡ entryOf eps res x row j
 
-  pub table-done : (ok : Bool) (t u : List Float) → length t ≡ m * n → ok ≡ true → Made ok u (try 0 n (columnOf eps res x r m n) t) → Tabled u
-  table-done ok t u l e p = go (try 0 n (columnOf eps res x r m n) t) (anyFar eps res x n 0) refl (rw e at (p .made)) (whole t l)
+  pub table-done : (k : ℕ) (t u : List Float) → length t ≡ m * n → k ≡ 0 → Filled k u (try 0 n (columnOf eps res x r m n) t) → Tabled u
+  table-done k t u l e p = go (try 0 n (columnOf eps res x r m n) t) (anyFar eps res x n 0) refl (rw e at (p .written)) (whole t l)
     where
       go : (o : Option (List Float)) (b : Bool) → anyFar eps res x n 0 ≡ b → some u ≡ o → Result o b → Tabled u
       go none b a q refused = absurd (omega (arith, never q))

@@ -4,21 +4,18 @@
 ghost use mathlib.Core.Path.{_≡_};
 ghost use Prim.Native.Nat.{_+_, _*_, _<_, _≤_};
 ghost use lib.ListN.{length};
-ghost use Rattle.loops.specs.Loop.{for, try, Made};
+ghost use Rattle.loops.specs.Loop.{for, try};
 ghost use Rattle.residuals.specs.Samples.{passesOf, Samples};
 ghost use Rattle.residuals.specs.Residuals.{rowsOf, residuals};
+ghost use Rattle.residuals.specs.Answers.{Filled};
 ghost use Rattle.normal.specs.Normal.{Grid};
-ghost use Rattle.normal.specs.Answers.{outcomeOf};
 ghost use Rattle.refine.specs.Jacobian.{biasEps, epsOf, perturbedOf, putEntry, columnOf};
-ghost use Rattle.refine.specs.Advance.{advanceOf, Ready};
+ghost use Rattle.refine.specs.Advance.{advanceOf, cellsOf, Ready, Advances};
 use normal::Step;
 use normal::Stepped;
+use residuals::PARAMS;
+use residuals::ROWS;
 use residuals::Station;
-
-// Parameters of 16 passes, and rows of 4,096 samples in them.
-const PARAMS: usize = 68;
-
-const ROWS: usize = 4144;
 
 fn bias_eps(j: usize) -> f64
     ensures { λ r. ⌜ r ≡ biasEps j ⌝ }
@@ -74,7 +71,7 @@ fn put_column(r: &[f64], column: &[f64], n: usize, eps: f64, k: usize, table: &m
     }
 }
 
-// Column k of the table. False where a moment is too far off.
+// Column k of the table, or the refusal of the moved set's residuals.
 fn jacobian_column(
     second: bool,
     counts: &[u32],
@@ -87,10 +84,10 @@ fn jacobian_column(
     n: usize,
     k: usize,
     table: &mut [f64],
-) -> bool
+) -> u32
     requires { ⌜ Samples g (passesOf (now counts) (now times) (now freqs)) (now turns) × Grid (length (now r)) n (now table)
         × (length (now r) ≡ rowsOf second (length (now times)) (length (now counts))) × (k < n) ⌝ }
-    ensures { λ ok. ⌜ Made ok (now (table .exit)) (columnOf (epsOf second) (residuals second g (passesOf (now (counts .entry)) (now (times .entry)) (now (freqs .entry))))
+    ensures { λ k′. ⌜ Filled k′ (now (table .exit)) (columnOf (epsOf second) (residuals second g (passesOf (now (counts .entry)) (now (times .entry)) (now (freqs .entry))))
         x (now (r .entry)) (length (now (r .entry))) n k (now (table .entry))) ⌝ }
 {
     let eps = param_eps(second, k);
@@ -98,14 +95,14 @@ fn jacobian_column(
     let mut column = [0.0; ROWS];
     let refusal = residuals::residuals_into(second, counts, times, freqs, turns, g, y, &mut column);
     if refusal != 0 {
-        return false;
+        return refusal;
     }
     let m = r.len();
     put_column(r, &column[..m], n, eps, k, table);
-    true
+    0
 }
 
-// The table, column by column.
+// The table, column by column, or the first refusal of a moved set's residuals.
 fn jacobian(
     second: bool,
     counts: &[u32],
@@ -117,22 +114,23 @@ fn jacobian(
     r: &[f64],
     n: usize,
     table: &mut [f64],
-) -> bool
+) -> u32
     requires { ⌜ Samples g (passesOf (now counts) (now times) (now freqs)) (now turns) × Grid (length (now r)) n (now table)
         × (length (now r) ≡ rowsOf second (length (now times)) (length (now counts))) ⌝ }
-    ensures { λ ok. ⌜ Made ok (now (table .exit)) (try 0 n (columnOf (epsOf second) (residuals second g (passesOf (now (counts .entry)) (now (times .entry)) (now (freqs .entry))))
+    ensures { λ k. ⌜ Filled k (now (table .exit)) (try 0 n (columnOf (epsOf second) (residuals second g (passesOf (now (counts .entry)) (now (times .entry)) (now (freqs .entry))))
         x (now (r .entry)) (length (now (r .entry))) n) (now (table .entry))) ⌝ }
 {
     for k in 0..n {
-        if !jacobian_column(second, counts, times, freqs, turns, g, x, r, n, k, table) {
-            return false;
+        let refusal = jacobian_column(second, counts, times, freqs, turns, g, x, r, n, k, table);
+        if refusal != 0 {
+            return refusal;
         }
     }
-    true
+    0
 }
 
-// What follows a trial that leaves the set params, its residuals r and the damping lambda. The table lies in the first places
-// of scratch; what is left there is not promised, since the fit clears it.
+// Table and step from the set params, its residuals r and the damping lambda. The table lies in the first places of scratch; what
+// is left in them is not promised, since the fit clears it.
 pub fn advance(
     second: bool,
     counts: &[u32],
@@ -146,11 +144,12 @@ pub fn advance(
     scratch: &mut [f64],
 ) -> Stepped
     requires { ⌜ Ready second g (passesOf (now counts) (now times) (now freqs)) (now turns) params (now r) (length (now scratch)) ⌝ }
-    ensures { λ s. ⌜ outcomeOf s ≡ advanceOf second g (passesOf (now (counts .entry)) (now (times .entry)) (now (freqs .entry))) lambda params ⌝ }
+    ensures { λ s. ⌜ Advances (cellsOf second (passesOf (now (counts .entry)) (now (times .entry)) (now (freqs .entry))))
+        (advanceOf second g (passesOf (now (counts .entry)) (now (times .entry)) (now (freqs .entry))) lambda params) (now (scratch .entry)) (now (scratch .exit)) s ⌝ }
 {
     let n = residuals::place_of(second, counts.len());
     let cells = r.len() * n;
-    if !jacobian(
+    let refusal = jacobian(
         second,
         counts,
         times,
@@ -161,9 +160,10 @@ pub fn advance(
         r,
         n,
         &mut scratch[..cells],
-    ) {
+    );
+    if refusal != 0 {
         return Stepped {
-            step: Step::TooFar,
+            step: Step::Refused(refusal),
             params,
         };
     }

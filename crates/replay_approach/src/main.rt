@@ -122,8 +122,8 @@ fn search(
     fields: &[u8],
     answer: &[u8],
 ) -> bool {
-    let mut table = [0.0; search_call::TABLE];
-    let r = search_call::search_starts(
+    let mut table = [0.0; probes::ROTATIONS];
+    let r = probes::search_starts(
         counts,
         times,
         freqs,

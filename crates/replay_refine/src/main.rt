@@ -3,7 +3,7 @@
 ghost use Prim.Native.Nat.{_≤_};
 use book::Ending;
 use frame::Vec3;
-use refine_call::Tried;
+use probes::Tried;
 use residuals::PARAMS;
 use trials::State;
 
@@ -57,11 +57,10 @@ fn refusal_of(second: bool, t: Tried) -> u32 {
     let s = t.state;
     let e = s.ended;
     match e {
-        Ending::TooFar => refusal::FAR_MOMENT,
         Ending::Short => { if second { refusal::FEW_SAMPLES } else { 0 } }
         Ending::Running => 0,
         Ending::Damped => 0,
-        Ending::NoPivot => 0,
+        Ending::Refused(_) => 0,
         Ending::Converged => 0,
     }
 }
@@ -77,7 +76,7 @@ fn trials_of(
     tries: u64,
     from: State,
 ) -> Tried {
-    let mut scratch = [0.0; refine_call::TABLE];
+    let mut scratch = [0.0; probes::TABLE];
     let mut t = Tried {
         refusal: 0,
         state: from,
@@ -89,7 +88,7 @@ fn trials_of(
         let Ending::Running = e else {
             break;
         };
-        t = refine_call::trial(
+        t = probes::trial(
             second,
             counts,
             times,
@@ -99,6 +98,9 @@ fn trials_of(
             s,
             &mut scratch,
         );
+        if t.refusal != 0 {
+            break;
+        }
         n += 1;
     }
     t
@@ -150,8 +152,8 @@ fn residuals(
     if SAMPLES < times.len() || PASSES < counts.len() {
         return false;
     }
-    let mut out = [0.0; refine_call::ROWS];
-    let r = refine_call::residuals_of(
+    let mut out = [0.0; probes::ROWS];
+    let r = probes::residuals_of(
         second,
         counts,
         times,

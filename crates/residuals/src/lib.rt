@@ -42,6 +42,9 @@ use orbit::doppler::Prediction;
 // Parameters of 16 passes.
 pub const PARAMS: usize = 68;
 
+// Residuals of 4,096 samples in 16 passes, with their penalties.
+pub const ROWS: usize = 4144;
+
 // What all predictions of a fit share.
 pub struct Station {
     pub epoch: Instant,

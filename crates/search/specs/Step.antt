@@ -7,11 +7,11 @@ use Prim.Native.Nat.{ℕ, zero, suc, _+_, _%_, _^_}
 use lib.ListN.{length, set, take}
 use lib.Ieee.{Float, toUnsigned, lt, ne, neg}
 use Rattle.float.specs.Constant.{decimal}
-use Rattle.float.specs.Ops.{_⊕_, _⊖_, _⊗_, _⊘_, bits, one, two, absOf, signumOf, remEuclidOf}
+use Rattle.float.specs.Ops.{_⊕_, _⊖_, _⊗_, _⊘_, bits, one, two, absOf, signumOf, remEuclidOf, raised}
 use Rattle.loops.specs.Loop.{for}
 use Rattle.float.specs.Trig.{pi}
 use Rattle.monna.specs.Rng.{drawOf, gaussianOf}
-use Rattle.monna.specs.Digits.{num, monnaOf, inverseOf, raised}
+use Rattle.monna.specs.Digits.{num, monnaOf, inverseOf}
 use Rattle.monna.specs.History.{differenceAt}
 use Rattle.approach.specs.Sums.{eps}
 use Rattle.search.specs.declared.Angles.{Angles}

@@ -1,7 +1,7 @@
 // A pass set as stored bytes: u32 pass count, one u32 sample count per pass, all times (i64 nanoseconds since 1970), all frequencies
 // (f64 bits), little-endian, nothing after.
 mod arrays;
-mod number;
+pub mod number;
 
 ghost use mathlib.Core.Path.{_≡_};
 ghost use Rattle.stored.specs.Sets as Sets;

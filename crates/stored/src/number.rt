@@ -1,4 +1,4 @@
-// Numbers as little-endian bytes. The functions here serve `load` and `store`, which have tested that the bytes are there.
+// Numbers as little-endian bytes. The functions here serve `load`, `store` and the fit on stored bytes, which have tested that the bytes are there.
 ghost use mathlib.Core.Path.{_≡_};
 ghost use Prim.Native.Nat.{_+_, _*_, _≤_, _<_};
 ghost use lib.Ieee.{binary64, ofBits, toBits};

@@ -1,6 +1,6 @@
--- The ways of a turn, as the code takes them. Assumes nothing.
+-- The halves of a turn, as the code takes them. Assumes nothing.
 use mathlib.Core.Path.{_≡_, refl, sym, ap, _∙_}
-use mathlib.Core.Bool.{Bool, true, false, true≢false, cond}
+use mathlib.Core.Bool.{Bool, true, false, cond}
 use mathlib.Core.List.{List, [], _∷_, _++_, append-assoc}
 use mathlib.Core.Option.{Option, none, some}
 use Prim.Native.Nat.{ℕ, zero, suc, _+_, _*_, _<_, _≤_}
@@ -8,78 +8,25 @@ use native.Mathlib.Numerals.{add-one}
 use lib.ListN.{length, take, drop, set, length-append}
 use lib.Seq.{drop-cons, set-at, length-take-le}
 use lib.Ieee.{Float, nan, lt}
+use Rattle.refusal.specs.Numbers as refusal
 use Rattle.float.specs.Ops.{_⊗_, _⊘_, bits}
 use Rattle.residuals.specs.Samples.{Passes}
 use Rattle.residuals.specs.Residuals.{each, sumOf, residuals, penalisedSum}
-use Rattle.residuals.specs.Answers.{sumAnswer, filled, Summed, Filled}
+use Rattle.residuals.specs.Answers.{sumAnswer, filled, refusalOf, Summed, Filled}
 use Rattle.residuals.specs.declared.Station.{Station}
 use Rattle.residuals.specs.declared.Sum.{Sum}
 use Rattle.residuals.specs.declared.Sum.the-variants.{Value, Refused}
-use Rattle.normal.specs.Step.{Outcome, next, far}
-use Rattle.refine.specs.Advance.{advanceOf}
-use Rattle.book.specs.Book.{ten-bits, mostDamping-bits, smallStep-bits, Search, After, judged, moveBy, whileRunning, move, followed, Book}
-use Rattle.book.specs.declared.Ending.{Ending}
-use Rattle.book.specs.declared.Ending.the-variants.{Running, TooFar, Short, Damped, NoPivot, Converged}
-use Rattle.book.proofs.Books.{Ended, by-far, by-shortness, by-damping, by-pivot, by-convergence}
-use Rattle.trials.specs.Trials.{isRunning, searchOf, afterOf, orFar, stepOf, Turns}
+use Rattle.normal.specs.Step.{Outcome, next, short, refused}
+use Rattle.normal.specs.Answers.{outcome}
+use Rattle.normal.specs.declared.Step.{Step}
+use Rattle.normal.specs.declared.Step.the-variants.{Next, Short, Singular, Refused as RefusedStep}
+use Rattle.refine.specs.Advance.{advanceOf, cellsOf}
+use Rattle.book.specs.Book.{ten-bits, mostDamping-bits, smallStep-bits, Search, After, judged, arrival, onward, Book}
+use Rattle.book.specs.declared.Ending.the-variants.{Running, Damped, Converged, Refused as RefusedEnd}
+use Rattle.trials.specs.Trials.{stateAfter, rowsIn, Tries, Arrives, Follows}
 use Rattle.trials.specs.declared.State.{State}
-
--- ---- what follows a trial
-
-module _ (step : Float → List Float → Outcome) (enough : Bool) (a : After) where
-  pub followed-ended : isRunning (a .ended) ≡ false → a ≡ followed step enough a
-  unfolding followed
-  followed-ended h = go (a .ended) h
-    where
-      go : (g : Ending) → isRunning g ≡ false → a ≡ whileRunning g (move step enough (a .search)) a
-      go Running h = absurd (true≢false h)
-      go TooFar h = refl
-      go Short h = refl
-      go Damped h = refl
-      go NoPivot h = refl
-      go Converged h = refl
-
-  moves : isRunning (a .ended) ≡ true → move step enough (a .search) ≡ followed step enough a
-  unfolding followed
-  moves h = go (a .ended) h
-    where
-      go : (g : Ending) → isRunning g ≡ true → move step enough (a .search) ≡ whileRunning g (move step enough (a .search)) a
-      go Running h = refl
-      go TooFar h = absurd (true≢false (sym h))
-      go Short h = absurd (true≢false (sym h))
-      go Damped h = absurd (true≢false (sym h))
-      go NoPivot h = absurd (true≢false (sym h))
-      go Converged h = absurd (true≢false (sym h))
-
-  short-is : enough ≡ false → record { search = a .search; ended = Short } ≡ move step enough (a .search)
-  unfolding move
-  short-is e = rw e
-
-  moved-is : enough ≡ true → moveBy (a .search) (step (a .search .damping) (a .search .next)) ≡ move step enough (a .search)
-  unfolding move
-  moved-is e = rw e
-
-  pub followed-short : isRunning (a .ended) ≡ true → enough ≡ false → record { search = a .search; ended = Short } ≡ followed step enough a
-  followed-short h e = short-is e ∙ moves h
-
-  pub followed-moves : isRunning (a .ended) ≡ true → enough ≡ true → moveBy (a .search) (step (a .search .damping) (a .search .next)) ≡ followed step enough a
-  followed-moves h e = moved-is e ∙ moves h
-
-pub not-running : (g : Ending) → isRunning g ≡ false → Ended g
-not-running Running h = absurd (true≢false h)
-not-running TooFar h = by-far
-not-running Short h = by-shortness
-not-running Damped h = by-damping
-not-running NoPivot h = by-pivot
-not-running Converged h = by-convergence
-
-pub is-running : (g : Ending) → isRunning g ≡ true → g ≡ Running
-is-running Running h = refl
-is-running TooFar h = absurd (true≢false (sym h))
-is-running Short h = absurd (true≢false (sym h))
-is-running Damped h = absurd (true≢false (sym h))
-is-running NoPivot h = absurd (true≢false (sym h))
-is-running Converged h = absurd (true≢false (sym h))
+use Rattle.trials.specs.declared.Tried.{Tried}
+use Rattle.trials.specs.declared.Followed.{Followed}
 
 -- ---- a sum, or refusal 23
 
@@ -91,9 +38,17 @@ far-of : (o : Option Float) (k : ℕ) → Refused k ≡ sumAnswer o → o ≡ no
 far-of none k h = refl
 far-of (some w) k h = cc
 
+far-number : (o : Option Float) (k : ℕ) → Refused k ≡ sumAnswer o → k ≡ refusal.far-moment
+far-number none k h = cc
+far-number (some w) k h = cc
+
 known-of : (w : Option (List Float)) (xs : List Float) (v : Float) → each sumOf w ≡ some v → each (λ _. xs) w ≡ w → some xs ≡ w
 known-of none xs v e h = cc
 known-of (some ys) xs v e h = h
+
+not-zero : (n : ℕ) (xs : List Float) → (n ≡ 0 → ⊥) → filled n xs ≡ none
+not-zero zero xs h = absurd (h refl)
+not-zero (suc n) xs h = refl
 
 module _ (second : Bool) (g : Station) (d : Passes) (x : List Float) where
   -- the sum is the definition's, and the residuals are there
@@ -108,22 +63,77 @@ module _ (second : Bool) (g : Station) (d : Passes) (x : List Float) where
   unfolding penalisedSum
   summed-far xs k r s e = far-of (each sumOf (residuals second g d x)) k (e ∙ s .answer)
 
+  summed-number : (xs : List Float) (k : ℕ) (r : Sum) → Summed xs (residuals second g d x) r → Refused k ≡ r → k ≡ refusal.far-moment
+  summed-number xs k r s e = far-number (each sumOf (residuals second g d x)) k (e ∙ s .answer)
+
+  -- ---- the residuals at hand
+
+  pub known-filled : (xs : List Float) → some xs ≡ residuals second g d x → Filled 0 xs (residuals second g d x)
+  known-filled xs h = record { written = h; number = ap refusalOf h }
+
   pub filled-known : (n : ℕ) (xs : List Float) → Filled n xs (residuals second g d x) → n ≡ 0 → some xs ≡ residuals second g d x
   filled-known n xs f z = rw z at (f .written)
 
-  not-zero : (n : ℕ) (xs : List Float) → (n ≡ 0 → ⊥) → filled n xs ≡ none
-  not-zero zero xs h = absurd (h refl)
-  not-zero (suc n) xs h = refl
+  filled-far : (n : ℕ) (xs : List Float) → Filled n xs (residuals second g d x) → (n ≡ 0 → ⊥) → none ≡ residuals second g d x
+  filled-far n xs f h = sym (not-zero n xs h) ∙ f .written
 
-  -- ---- the step of a set
+  -- ---- what follows a trial
 
-  pub step-known : (lambda : Float) (xs : List Float) → some xs ≡ residuals second g d x → advanceOf second g d lambda x ≡ stepOf second g d lambda x
-  unfolding stepOf
-  step-known lambda xs h = ap (λ (w : Option (List Float)). orFar w (advanceOf second g d lambda x)) h
+  module _ (enough : Bool) (s : Search) (here : s .next ≡ x) where
+    abbrev goal : Outcome
+    goal = onward (penalisedSum second g d) (advanceOf second g d) enough s
 
-  pub step-far : (lambda : Float) (n : ℕ) (xs : List Float) → Filled n xs (residuals second g d x) → (n ≡ 0 → ⊥) → far ≡ stepOf second g d lambda x
-  unfolding stepOf
-  step-far lambda n xs f h = ap (λ (w : Option (List Float)). orFar w (advanceOf second g d lambda x)) (sym (not-zero n xs h) ∙ f .written)
+    pub onward-far : (n : ℕ) (xs : List Float) → Filled n xs (residuals second g d x) → (n ≡ 0 → ⊥) → refused n ≡ goal
+    unfolding onward penalisedSum
+    onward-far n xs f h =
+        let z = filled-far n xs f h in
+        rw (here, ← z) (ap refused (f .number ∙ ap refusalOf (sym z)))
+
+    pub onward-short : (xs : List Float) → some xs ≡ residuals second g d x → enough ≡ false → short ≡ goal
+    unfolding onward penalisedSum
+    onward-short xs h e = rw (here, ← h, e)
+
+    pub onward-step : (xs : List Float) → some xs ≡ residuals second g d x → enough ≡ true → advanceOf second g d (s .damping) x ≡ goal
+    unfolding onward penalisedSum
+    onward-step xs h e = rw (here, ← h, e)
+
+    -- by one of the three
+    pub follows : (r scratch scratch′ : List Float) (n : ℕ) (o : Outcome) (f : Followed) → Filled n (take (rowsIn second d) r) (residuals second g d x) → o ≡ goal
+        → Arrives s o f → drop (cellsOf second d) scratch′ ≡ drop (cellsOf second d) scratch → Follows second enough g d s r scratch scratch′ f
+    follows r scratch scratch′ n o f w e a b =
+        record { arrives = rw e at a; left = rw here (left-by n (take (rowsIn second d) r) (residuals second g d x) w); behind = b }
+      where
+        left-by : (n : ℕ) (ys : List Float) (w : Option (List Float)) → Filled n ys w → each (λ _. ys) w ≡ w
+        left-by zero ys none f = refl
+        left-by (suc n) ys none f = refl
+        left-by zero ys (some zs) f = f .written
+        left-by (suc n) ys (some zs) f = let z = f .written in cc
+
+-- ---- a trial's answer
+
+module _ (second : Bool) (g : Station) (d : Passes) (s : Search) (r : List Float) (a : Sum) (w : Summed (take (rowsIn second d) r) (residuals second g d (s .next)) a) where
+  pub tried-value : (v : Float) (k : Bool) (t : State) → Value v ≡ a → k ≡ lt v (s .best) → stateAfter t ≡ judged v s → Tries second g d s r (record { sum = Value v; kept = k; state = t })
+  tried-value v k t e ek j =
+      let z = summed second g d (s .next) _ v a w e in
+      record { summed = rw e w; kept = rw z ek; after = rw z j }
+
+  pub tried-far : (n : ℕ) (t : State) → Refused n ≡ a → stateAfter t ≡ record { search = s; ended = RefusedEnd n }
+      → Tries second g d s r (record { sum = Refused n; kept = false; state = t })
+  tried-far n t e j =
+      let z = summed-far second g d (s .next) _ n a w e in
+      let m = summed-number second g d (s .next) _ n a w e in
+      record { summed = rw e w; kept = rw z; after = rw z (rw m at j) }
+
+-- ---- where a step leads
+
+arrives-by : (s : Search) (x : List Float) (p : Step) (t : State) → stateAfter t ≡ arrival s (outcome p x) → Arrives s (outcome p x) (record { step = p; state = t })
+arrives-by s x (Next size) t e = record { step = ap (λ (a : After). next (a .search .next) size) e; after = e }
+arrives-by s x Short t e = record { step = refl; after = e }
+arrives-by s x Singular t e = record { step = refl; after = e }
+arrives-by s x (RefusedStep k) t e = record { step = refl; after = e }
+
+pub arrives : (s : Search) (x : List Float) (p q : Step) (t : State) → q ≡ p → stateAfter t ≡ arrival s (outcome q x) → Arrives s (outcome p x) (record { step = q; state = t })
+arrives s x p q t e w = rw (← e) (arrives-by s x q t w)
 
 -- ---- the residuals' slice
 
@@ -151,7 +161,7 @@ logged-next b c v n old log size h e is =
 pub longer : (b c : Book) (v : Float) (n : ℕ) → length (b .log) ≡ n → c .log ≡ b .log ++ (v ∷ []) → length (c .log) ≡ n + 1
 longer b c v n size e = ap length e ∙ length-append (b .log) (v ∷ []) ∙ ap (_+ 1) size
 
--- ---- a trial, with the code's literals
+-- ---- with the code's literals
 
 module _ (s : Search) (v : Float) where
   pub judged-kept : lt v (s .best) ≡ true
@@ -169,33 +179,17 @@ module _ (s : Search) (v : Float) where
   unfolding judged
   judged-left h g = let g′ = rw (ten-bits, mostDamping-bits) at g in rw (h, ten-bits, g′)
 
-module _ (s : Search) where
-  pub arrived : (x : List Float) (size : Float) (t : Bool) → lt size (bits 0x3e45798ee2308c3a) ≡ t
-      → record { search = record { next = x; bestSet = s .bestSet; damping = s .damping; best = s .best }; ended = cond t Converged Running } ≡ moveBy s (next x size)
-  arrived x size t h = let h′ = rw smallStep-bits at h in rw h′
+pub reached : (s : Search) (x : List Float) (size : Float) (t : Bool) → lt size (bits 0x3e45798ee2308c3a) ≡ t
+    → record { search = record { next = x; bestSet = s .bestSet; damping = s .damping; best = s .best }; ended = cond t Converged Running } ≡ arrival s (next x size)
+reached s x size t h = let h′ = rw smallStep-bits at h in rw h′
 
--- ---- a turn's answer
-
-module _ (sum : List Float → Option Float) (step : Float → List Float → Outcome) (enough : Bool) (s : Search) where
-  pub turned-far : (z : Float) (t : State) → sum (s .next) ≡ none → afterOf t ≡ record { search = s; ended = TooFar }
-      → Turns sum step enough s (record { logged = false; sum = z; state = t })
-  turned-far z t e a = record { far = λ h. (e, a); tried = λ h. absurd (true≢false (sym h)) }
-
-  pub turned : (v : Float) (t : State) → sum (s .next) ≡ some v → afterOf t ≡ followed step enough (judged v s)
-      → Turns sum step enough s (record { logged = true; sum = v; state = t })
-  turned v t e a = record { far = λ h. absurd (true≢false h); tried = λ h. (e, a) }
-
--- where the trial left the state t
-module _ (step : Float → List Float → Outcome) (enough : Bool) (s : Search) (v : Float) (t : State) (j : afterOf t ≡ judged v s) where
-  pub after-ended : isRunning (t .ended) ≡ false → afterOf t ≡ followed step enough (judged v s)
-  after-ended h = followed-ended step enough (afterOf t) h ∙ ap (followed step enough) j
-
-  pub after-short : (r : State) → isRunning (t .ended) ≡ true → enough ≡ false → afterOf r ≡ record { search = searchOf t; ended = Short } → afterOf r ≡ followed step enough (judged v s)
-  after-short r h e a = a ∙ followed-short step enough (afterOf t) h e ∙ ap (followed step enough) j
-
-  pub after-moves : (r : State) → isRunning (t .ended) ≡ true → enough ≡ true → afterOf r ≡ moveBy (searchOf t) (step (t .damping) (t .params)) → afterOf r ≡ followed step enough (judged v s)
-  after-moves r h e a = a ∙ followed-moves step enough (afterOf t) h e ∙ ap (followed step enough) j
-
--- a kept set is the one that was tried
-pub kept-set : (s : Search) (v : Float) (t : State) → afterOf t ≡ judged v s → lt v (s .best) ≡ true → t .params ≡ s .next
+-- a kept set is the one that was tried, and its residuals are at hand
+pub kept-set : (s : Search) (v : Float) (t : State) → stateAfter t ≡ judged v s → lt v (s .best) ≡ true → t .params ≡ s .next
 kept-set s v t j h = ap (λ (a : After). a .search .next) (j ∙ sym (judged-kept s v h))
+
+pub kept-held : (second : Bool) (g : Station) (d : Passes) (s : Search) (r : List Float) (t : Tried) (v : Float) → Tries second g d s r t → Value v ≡ t .sum → t .kept ≡ true
+    → some (take (rowsIn second d) r) ≡ residuals second g d (t .state .params)
+kept-held second g d s r t v w e k =
+    let z = summed second g d (s .next) _ v (t .sum) (w .summed) e in
+    let b : lt v (s .best) ≡ true = sym (rw z at (w .kept)) ∙ k in
+    rw (kept-set s v (t .state) (rw z at (w .after)) b) (summed-known second g d (s .next) _ v (t .sum) (w .summed) e)

@@ -1,24 +1,23 @@
 // The trials of a refinement, as the trial book of crate `book` has them. `second` says which refinement. The state is one
-// record by value: `turn` makes one trial and what follows it. The functions ask what the fit has checked, and it meets that by
-// proof.
+// record by value: `trial` compares the next set's sum with the best, `follow` does what follows. The functions ask what the fit
+// has checked, and it meets that by proof.
 ghost use mathlib.Core.Path.{_≡_};
-ghost use Prim.Native.Nat.{_≤_};
-ghost use lib.ListN.{length};
-ghost use Rattle.residuals.specs.Samples.{passesOf};
-ghost use Rattle.residuals.specs.Residuals.{penalisedSum};
-ghost use Rattle.refine.specs.Advance.{Ready};
+ghost use Prim.Native.Nat.{_+_, _*_, _≤_};
+ghost use lib.ListN.{length, take};
+ghost use Rattle.residuals.specs.Samples.{passesOf, Samples};
+ghost use Rattle.residuals.specs.Residuals.{rowsOf, residuals, penalisedSum};
+ghost use Rattle.residuals.specs.Answers.{Filled};
+ghost use Rattle.refine.specs.Advance.{advanceOf, cellsOf};
+ghost use Rattle.normal.specs.Step.{next};
 ghost use Rattle.normal.specs.Answers.{outcome};
-ghost use Rattle.book.specs.Book.{opening, judged, moveBy, book};
-ghost use Rattle.trials.specs.Trials.{isRunning, searchOf, afterOf, stepOf, Fits, Turns, RunsTo};
+ghost use Rattle.book.specs.Book.{openBook, judged, arrival, onward, book};
+ghost use Rattle.trials.specs.Trials.{stateSearch, stateAfter, Fits, Tries, Held, Arrives, Follows, Runs};
 use book::Ending;
 use normal::Step;
+use residuals::PARAMS;
+use residuals::ROWS;
 use residuals::Station;
 use residuals::Sum;
-
-// Parameters of 16 passes, and rows of 4,096 samples in them.
-const PARAMS: usize = 68;
-
-const ROWS: usize = 4144;
 
 // The set to try next, the best sum with its set, the damping, and whether the refinement has ended.
 pub struct State {
@@ -29,10 +28,16 @@ pub struct State {
     pub ended: Ending,
 }
 
-// What a turn leaves: the sum where a trial was made, and the state after it.
-pub struct Turned {
-    pub logged: bool,
-    pub sum: f64,
+// What a trial leaves: the sum or its refusal, whether the sum was below the best, and the state after it.
+pub struct Tried {
+    pub sum: Sum,
+    pub kept: bool,
+    pub state: State,
+}
+
+// What follows a trial: where the step led, and the state after it.
+pub struct Followed {
+    pub step: Step,
     pub state: State,
 }
 
@@ -42,21 +47,8 @@ pub struct Trials {
     pub state: State,
 }
 
-fn running(e: Ending) -> bool
-    ensures { λ r. ⌜ r ≡ isRunning e ⌝ }
-{
-    match e {
-        Ending::Running => true,
-        Ending::TooFar => false,
-        Ending::Short => false,
-        Ending::Damped => false,
-        Ending::NoPivot => false,
-        Ending::Converged => false,
-    }
-}
-
 fn open(start: [f64; PARAMS]) -> State
-    ensures { λ r. ⌜ afterOf r ≡ record { search = opening start .search; ended = opening start .ended } ⌝ }
+    ensures { λ r. ⌜ stateAfter r ≡ record { search = openBook start .search; ended = openBook start .ended } ⌝ }
 {
     State {
         params: start,
@@ -69,7 +61,7 @@ fn open(start: [f64; PARAMS]) -> State
 
 // The state with this ending.
 fn end(s: State, ended: Ending) -> State
-    ensures { λ r. ⌜ afterOf r ≡ record { search = searchOf s; ended = ended } ⌝ }
+    ensures { λ r. ⌜ stateAfter r ≡ record { search = stateSearch s; ended = ended } ⌝ }
 {
     let params = s.params;
     let best_params = s.best_params;
@@ -84,7 +76,7 @@ fn end(s: State, ended: Ending) -> State
 
 // A sum below the best is kept with its set and the damping falls; else the best set is restored and the damping rises.
 fn judge(s: State, sum: f64) -> State
-    ensures { λ r. ⌜ afterOf r ≡ judged sum (searchOf s) ⌝ }
+    ensures { λ r. ⌜ stateAfter r ≡ judged sum (stateSearch s) ⌝ }
 {
     if sum < s.best {
         let tried = s.params;
@@ -116,37 +108,8 @@ fn judge(s: State, sum: f64) -> State
     }
 }
 
-// Where a step leads: to the set `params`, which ends the refinement where the step was small, or to its end.
-fn arrive(s: State, params: [f64; PARAMS], step: Step) -> State
-    ensures { λ r. ⌜ afterOf r ≡ moveBy (searchOf s) (outcome step params) ⌝ }
-{
-    match step {
-        Step::Next(size) => {
-            let best_params = s.best_params;
-            if size < 1e-8 {
-                return State {
-                    params,
-                    best_params,
-                    damping: s.damping,
-                    best: s.best,
-                    ended: Ending::Converged,
-                };
-            }
-            State {
-                params,
-                best_params,
-                damping: s.damping,
-                best: s.best,
-                ended: Ending::Running,
-            }
-        }
-        Step::Singular => end(s, Ending::NoPivot),
-        Step::TooFar => end(s, Ending::TooFar),
-    }
-}
-
-// Table and step from the state s, whose set has the residuals r.
-fn advance_from(
+// One trial: the sum of the state's next set, compared with the best. The set's residuals are left in the first places of r.
+pub fn trial(
     second: bool,
     counts: &[u32],
     times: &[u64],
@@ -154,13 +117,132 @@ fn advance_from(
     turns: &[f64],
     g: Station,
     s: State,
-    r: &[f64],
-    scratch: &mut [f64],
-) -> State
-    requires { ⌜ Ready second g (passesOf (now counts) (now times) (now freqs)) (now turns) (s .params) (now r) (length (now scratch)) ⌝ }
-    ensures { λ t. ⌜ afterOf t ≡ moveBy (searchOf s) (stepOf second g (passesOf (now (counts .entry)) (now (times .entry)) (now (freqs .entry))) (s .damping) (s .params)) ⌝ }
+    r: &mut [f64],
+) -> Tried
+    requires { ⌜ Samples g (passesOf (now counts) (now times) (now freqs)) (now turns) × (length (now times) + 3 * length (now counts) ≤ length (now r)) ⌝ }
+    ensures { λ t. ⌜ Tries second g (passesOf (now (counts .entry)) (now (times .entry)) (now (freqs .entry))) (stateSearch s) (now (r .exit)) t ⌝ }
 {
     let x = s.params;
+    let answer = residuals::penalised_sum(second, counts, times, freqs, turns, g, x, r);
+    match answer {
+        Sum::Value(sum) => {
+            let state = judge(s, sum);
+            Tried {
+                sum: answer,
+                kept: sum < s.best,
+                state,
+            }
+        }
+        Sum::Refused(number) => {
+            let state = end(s, Ending::Refused(number));
+            Tried {
+                sum: answer,
+                kept: false,
+                state,
+            }
+        }
+    }
+}
+
+// The state with the next set `params`, ended where the step to it was small.
+fn reach(s: State, params: [f64; PARAMS], size: f64) -> State
+    ensures { λ r. ⌜ stateAfter r ≡ arrival (stateSearch s) (next params size) ⌝ }
+{
+    let best_params = s.best_params;
+    if size < 1e-8 {
+        return State {
+            params,
+            best_params,
+            damping: s.damping,
+            best: s.best,
+            ended: Ending::Converged,
+        };
+    }
+    State {
+        params,
+        best_params,
+        damping: s.damping,
+        best: s.best,
+        ended: Ending::Running,
+    }
+}
+
+// Where a step leads: to the set `params`, which ends the refinement where the step was small, or to its end.
+fn arrive(s: State, params: [f64; PARAMS], step: Step) -> Followed
+    ensures { λ f. ⌜ Arrives (stateSearch s) (outcome step params) f ⌝ }
+{
+    match step {
+        Step::Next(size) => {
+            let state = reach(s, params, size);
+            Followed { step, state }
+        }
+        Step::Short => {
+            let state = end(s, Ending::Short);
+            Followed { step, state }
+        }
+        Step::Singular => {
+            let state = end(s, Ending::Refused(refusal::SMALL_PIVOT));
+            Followed { step, state }
+        }
+        Step::Refused(number) => {
+            let state = end(s, Ending::Refused(number));
+            Followed { step, state }
+        }
+    }
+}
+
+// The residuals of the set x go to the first places of r, where they lie already if they are known; or refusal 23.
+fn at_hand(
+    second: bool,
+    known: bool,
+    counts: &[u32],
+    times: &[u64],
+    freqs: &[f64],
+    turns: &[f64],
+    g: Station,
+    x: [f64; PARAMS],
+    r: &mut [f64],
+) -> u32
+    requires { ⌜ Samples g (passesOf (now counts) (now times) (now freqs)) (now turns) × Held second known g (passesOf (now counts) (now times) (now freqs)) x (now r) ⌝ }
+    ensures { λ k. ⌜ Filled k (take (rowsOf second (length (now (times .entry))) (length (now (counts .entry)))) (now (r .exit)))
+        (residuals second g (passesOf (now (counts .entry)) (now (times .entry)) (now (freqs .entry))) x) ⌝ }
+{
+    if known {
+        return 0;
+    }
+    residuals::residuals_into(second, counts, times, freqs, turns, g, x, r)
+}
+
+// What follows a trial, in the reference's order: the residuals of the set at hand, which are known where the trial kept it and worked
+// out again where the best one was restored; whether they are enough; table and step. The table lies in the first places of
+// scratch.
+pub fn follow(
+    second: bool,
+    enough: bool,
+    known: bool,
+    counts: &[u32],
+    times: &[u64],
+    freqs: &[f64],
+    turns: &[f64],
+    g: Station,
+    s: State,
+    r: &mut [f64],
+    scratch: &mut [f64],
+) -> Followed
+    requires { ⌜ Fits second g (passesOf (now counts) (now times) (now freqs)) (now turns) (length (now scratch))
+        × Held second known g (passesOf (now counts) (now times) (now freqs)) (s .params) (now r) ⌝ }
+    ensures { λ f. ⌜ Follows second enough g (passesOf (now (counts .entry)) (now (times .entry)) (now (freqs .entry))) (stateSearch s)
+        (now (r .exit)) (now (scratch .entry)) (now (scratch .exit)) f ⌝ }
+{
+    let rows = residuals::rows_of(second, times.len(), counts.len());
+    let x = s.params;
+    let number = at_hand(second, known, counts, times, freqs, turns, g, x, r);
+    if number != 0 {
+        return arrive(s, x, Step::Refused(number));
+    }
+    if !enough {
+        return arrive(s, x, Step::Short);
+    }
     let moved = refine::advance(
         second,
         counts,
@@ -170,117 +252,12 @@ fn advance_from(
         g,
         x,
         s.damping,
-        r,
+        &r[..rows],
         scratch,
     );
     let y = moved.params;
     let step = moved.step;
     arrive(s, y, step)
-}
-
-// The same where the set is a restored one, whose residuals are worked out again.
-fn advance_restored(
-    second: bool,
-    counts: &[u32],
-    times: &[u64],
-    freqs: &[f64],
-    turns: &[f64],
-    g: Station,
-    s: State,
-    scratch: &mut [f64],
-) -> State
-    requires { ⌜ Fits second g (passesOf (now counts) (now times) (now freqs)) (now turns) (length (now scratch)) ⌝ }
-    ensures { λ t. ⌜ afterOf t ≡ moveBy (searchOf s) (stepOf second g (passesOf (now (counts .entry)) (now (times .entry)) (now (freqs .entry))) (s .damping) (s .params)) ⌝ }
-{
-    let rows = residuals::rows_of(second, times.len(), counts.len());
-    let mut r = [0.0; ROWS];
-    let x = s.params;
-    let refusal = residuals::residuals_into(second, counts, times, freqs, turns, g, x, &mut r);
-    if refusal != 0 {
-        return end(s, Ending::TooFar);
-    }
-    advance_from(
-        second,
-        counts,
-        times,
-        freqs,
-        turns,
-        g,
-        s,
-        &r[..rows],
-        scratch,
-    )
-}
-
-// One trial of the state's next set, and what follows it.
-pub fn turn(
-    second: bool,
-    enough: bool,
-    counts: &[u32],
-    times: &[u64],
-    freqs: &[f64],
-    turns: &[f64],
-    g: Station,
-    s: State,
-    scratch: &mut [f64],
-) -> Turned
-    requires { ⌜ Fits second g (passesOf (now counts) (now times) (now freqs)) (now turns) (length (now scratch)) ⌝ }
-    ensures { λ t. ⌜ Turns (penalisedSum second g (passesOf (now (counts .entry)) (now (times .entry)) (now (freqs .entry))))
-        (stepOf second g (passesOf (now (counts .entry)) (now (times .entry)) (now (freqs .entry)))) enough (searchOf s) t ⌝ }
-{
-    let rows = residuals::rows_of(second, times.len(), counts.len());
-    let mut r = [0.0; ROWS];
-    let x = s.params;
-    let answer = residuals::penalised_sum(second, counts, times, freqs, turns, g, x, &mut r);
-    let Sum::Value(sum) = answer else {
-        let state = end(s, Ending::TooFar);
-        return Turned {
-            logged: false,
-            sum: 0.0,
-            state,
-        };
-    };
-    let t = judge(s, sum);
-    let e = t.ended;
-    if !running(e) {
-        return Turned {
-            logged: true,
-            sum,
-            state: t,
-        };
-    }
-    if !enough {
-        let state = end(t, Ending::Short);
-        return Turned {
-            logged: true,
-            sum,
-            state,
-        };
-    }
-    if sum < s.best {
-        let state = advance_from(
-            second,
-            counts,
-            times,
-            freqs,
-            turns,
-            g,
-            t,
-            &r[..rows],
-            scratch,
-        );
-        return Turned {
-            logged: true,
-            sum,
-            state,
-        };
-    }
-    let state = advance_restored(second, counts, times, freqs, turns, g, t, scratch);
-    Turned {
-        logged: true,
-        sum,
-        state,
-    }
 }
 
 // A refinement from the set `start`: at most `most` trials, each sum written to the log.
@@ -298,22 +275,47 @@ pub fn refine_trials(
     scratch: &mut [f64],
 ) -> Trials
     requires { ⌜ Fits second g (passesOf (now counts) (now times) (now freqs)) (now turns) (length (now scratch)) × (most ≤ length (now log)) × (most ≤ 150) ⌝ }
-    ensures { λ t. ⌜ RunsTo (book (penalisedSum second g (passesOf (now (counts .entry)) (now (times .entry)) (now (freqs .entry))))
-        (stepOf second g (passesOf (now (counts .entry)) (now (times .entry)) (now (freqs .entry)))) enough start most) (now (log .entry)) (now (log .exit)) t ⌝ }
+    ensures { λ t. ⌜ Runs (book (penalisedSum second g (passesOf (now (counts .entry)) (now (times .entry)) (now (freqs .entry))))
+        (advanceOf second g (passesOf (now (counts .entry)) (now (times .entry)) (now (freqs .entry)))) enough start most) (now (log .entry)) (now (log .exit))
+        (cellsOf second (passesOf (now (counts .entry)) (now (times .entry)) (now (freqs .entry)))) (now (scratch .entry)) (now (scratch .exit)) t ⌝ }
 {
     let mut s = open(start);
     let mut n = 0usize;
     while n < most {
-        let t = turn(second, enough, counts, times, freqs, turns, g, s, scratch);
+        let mut r = [0.0; ROWS];
+        let t = trial(second, counts, times, freqs, turns, g, s, &mut r);
         let after = t.state;
         s = after;
-        if !t.logged {
+        let answer = t.sum;
+        let Sum::Value(sum) = answer else {
             break;
-        }
-        log[n] = t.sum;
+        };
+        log[n] = sum;
         n += 1;
         let e = after.ended;
-        if !running(e) {
+        let Ending::Running = e else {
+            break;
+        };
+        let f = follow(
+            second,
+            enough,
+            t.kept,
+            counts,
+            times,
+            freqs,
+            turns,
+            g,
+            after,
+            &mut r,
+            scratch,
+        );
+        let reached = f.state;
+        s = reached;
+        let step = f.step;
+        let Step::Next(size) = step else {
+            break;
+        };
+        if size < 1e-8 {
             break;
         }
     }

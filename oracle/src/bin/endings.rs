@@ -1,5 +1,6 @@
 //! endings FIRST COUNT PASSES SAMPLES: how the patched original's fits end, by seed and damage, so that stored answers can be chosen.
-//! A line: seed, damage ('none' for a realistic set), refusal, trials of both refinements, and what ended the work.
+//! A line: seed, damage ('none' for a realistic set), refusal, trials of both refinements, how many of the second's sums are not finite, and what
+//! ended the work.
 //! endings case SEED DAMAGE PASSES SAMPLES: the line that asks for this fit, for `answers ask`.
 use common::inputs::determination;
 use common::lines::Line;
@@ -10,7 +11,7 @@ fn told(seed: u64, kind: &str, c: &simulator::Case) {
     patched::hooks::take();
     let checked = judge::fit_checks(&c.set, c.receiver, c.a, c.i);
     if let Err(n) = checked {
-        println!("{seed} {kind} {n} 0 0 early ({})", c.kind);
+        println!("{seed} {kind} {n} 0 0 0 early ({})", c.kind);
         return;
     }
     let solved = judge::caught(|| patched::orbit_solver::fit_orbit_doppler(&judge::passes(&c.set), c.receiver, c.a, c.i).is_ok());
@@ -24,7 +25,8 @@ fn told(seed: u64, kind: &str, c: &simulator::Case) {
         (_, 150, "") => "150 trials",
         (_, _, how) => how,
     };
-    println!("{seed} {kind} {refusal} {} {} {how} ({})", r.first.len(), r.trials.len(), c.kind);
+    let odd = r.trials.iter().filter(|t| !t.sum.is_finite()).count();
+    println!("{seed} {kind} {refusal} {} {} {odd} {how} ({})", r.first.len(), r.trials.len(), c.kind);
 }
 
 /// 'none' or a damage's number.

@@ -1,8 +1,7 @@
 -- `refine_both` meets its contract. Assumes nothing.
-use mathlib.Core.Path.{sym, _∙_}
 use borrow.Author.Needs.{needs}
 use Rattle.fit.specs.Fit.{observed}
-use Rattle.fit.proofs.Steps.{all-refines, solves-far, solves}
+use Rattle.fit.proofs.Steps.{all-refines, not-far, solves-far, solves}
 use Rattle.fit.proofs.refine_both.Statement.{statement}
 use Rattle.fit.proofs.refine_both.Tie as tie
 
@@ -10,7 +9,7 @@ returns : tie.Need-returns
 returns c =
     let f = c .before .before .before .before .before .before in
     let a = f .before .before .before .before .before .before .args in
-    solves-far (observed (a .counts .now) (a .times .now) (a .freqs .now) (a .center) (a .rec-ecef)) _ _ _ _ _ (f .refine-first .ensures) _ (sym (c .before .too-far .ensures) ∙ c .if1 .taken)
+    solves-far (observed (a .counts .now) (a .times .now) (a .freqs .now) (a .center) (a .rec-ecef)) _ _ _ _ _ (f .refine-first .ensures) _ _ (c .before .far-refusal .ensures) (c .if1 .taken)
 
 refine-passes-requires : tie.Need-refine-passes-requires
 refine-passes-requires c κs =
@@ -31,7 +30,7 @@ returns-2 c =
     let e = t .before in
     let f = e .before .before .before .before in
     let a = f .before .before .before .before .before .before .args in
-    solves (observed (a .counts .now) (a .times .now) (a .freqs .now) (a .center) (a .rec-ecef)) _ _ _ _ _ (f .refine-first .ensures) _ _ _ (sym (t .too-far .ensures) ∙ l .if1 .left) (e .elements-of .ensures) (p .refine-passes .ensures) (c .state-refusal .ensures)
+    solves (observed (a .counts .now) (a .times .now) (a .freqs .now) (a .center) (a .rec-ecef)) _ _ _ _ _ (f .refine-first .ensures) _ _ _ (not-far _ (f .refine-first .result .ended) (t .far-refusal .ensures) (l .if1 .left)) (e .elements-of .ensures) (p .refine-passes .ensures) (c .state-refusal .ensures)
 
 pub refine-both-spec : {M : Type 1} → statement M
 refine-both-spec =

@@ -35,7 +35,7 @@ returns c =
     let m = b .before in
     let k = m .before .before .before .before .before .before in
     let a = k .before .before .before .before .before .before .args in
-    runs-refined _ _ _ _ (observed (a .counts .now) (a .times .now) (a .freqs .now) (a .center) (a .rec-ecef)) _ _ _ _ _ _ (k .counts-at .ensures) (m .moment-at .ensures .0) (b .starting-set .ensures) (t .refine-trials .ensures)
+    runs-refined _ _ _ _ (observed (a .counts .now) (a .times .now) (a .freqs .now) (a .center) (a .rec-ecef)) _ _ _ _ _ _ _ _ _ (k .counts-at .ensures) (m .moment-at .ensures .0) (b .starting-set .ensures) (t .refine-trials .ensures)
 
 pub refine-passes-spec : {M : Type 1} → statement M
 refine-passes-spec =

@@ -1,10 +1,9 @@
 -- `advance` meets its contract. Assumes nothing.
-use mathlib.Core.Path.{refl, sym}
+use mathlib.Core.Path.{refl, sym, _∙_}
 use native.Mathlib.Omega.{arith}
 use lib.Seq.{length-take-le}
 use borrow.Author.Needs.{needs}
-use borrow.Author.Tests.{not-true, not-false}
-use Rattle.refine.proofs.Advances.{columns-few, columns-four, rows-few, cells-few, cells-fit, advance-far, advance-done}
+use Rattle.refine.proofs.Advances.{columns-few, columns-four, rows-few, cells-few, cells-fit, behind, advance-far, advance-done}
 use Rattle.refine.proofs.advance.Statement.{statement}
 use Rattle.refine.proofs.advance.Tie as tie
 
@@ -36,9 +35,13 @@ returns : tie.Need-returns
 returns c =
     let called = c .before .before .before in
     let placed = called .before .before in
-    let pre = placed .before .before .before .before .before .before .before .pre in
+    let start = placed .before .before .before .before .before .before .before in
+    let pre = start .pre in
     let en = placed .place-of .ensures .0 in
-    advance-far _ _ _ _ _ _ _ _ pre en _ _ _ _ (length-take-le _ _ (cells-fit _ _ _ _ _ _ _ _ pre en)) (called .jacobian .ensures) (not-true _ (c .if1 .taken))
+    record {
+      outcome = advance-far _ _ _ _ _ _ _ _ pre en _ _ _ _ (length-take-le _ _ (cells-fit _ _ _ _ _ _ _ _ pre en)) (called .jacobian .ensures) (c .if1 .taken);
+      behind = behind _ _ _ _ _ _ _ _ pre en (called .jacobian .last .1 .1 .1 .1 .1 .1 .1 .1 .1 .0) (start .args .scratch .now) _ (called .jacobian .kept .1 .1 .1 .1 .1 .1 .1 .1 .1 .0 ∙ length-take-le _ _ (cells-fit _ _ _ _ _ _ _ _ pre en)) refl;
+    }
 
 slice-reshare-prefix-damped-step : tie.Need-slice-reshare-prefix-damped-step
 slice-reshare-prefix-damped-step c =
@@ -64,9 +67,13 @@ returns-2 c =
     let past = c .before .before in
     let called = past .before .before .before in
     let placed = called .before .before in
-    let pre = placed .before .before .before .before .before .before .before .pre in
+    let start = placed .before .before .before .before .before .before .before in
+    let pre = start .pre in
     let en = placed .place-of .ensures .0 in
-    advance-done _ _ _ _ _ _ _ _ pre en _ _ _ _ (length-take-le _ _ (cells-fit _ _ _ _ _ _ _ _ pre en)) (called .jacobian .ensures) _ _ _ (not-false _ (past .if1 .left)) refl (c .damped-step .ensures)
+    record {
+      outcome = advance-done _ _ _ _ _ _ _ _ pre en _ _ _ _ (length-take-le _ _ (cells-fit _ _ _ _ _ _ _ _ pre en)) (called .jacobian .ensures) _ _ _ (past .if1 .left) refl (c .damped-step .ensures);
+      behind = behind _ _ _ _ _ _ _ _ pre en (called .jacobian .last .1 .1 .1 .1 .1 .1 .1 .1 .1 .0) (start .args .scratch .now) _ (called .jacobian .kept .1 .1 .1 .1 .1 .1 .1 .1 .1 .0 ∙ length-take-le _ _ (cells-fit _ _ _ _ _ _ _ _ pre en)) refl;
+    }
 
 pub advance-spec : {M : Type 1} → statement M
 advance-spec =

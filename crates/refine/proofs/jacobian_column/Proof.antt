@@ -23,7 +23,7 @@ returns : tie.Need-returns
 returns c =
     let called = c .before .before in
     let moved = called .before .before in
-    column-far (epsOf _) (residuals _ _ _) _ _ _ _ _ _ _ _ (moved .before .param-eps .ensures) (moved .perturbed .ensures) (called .residuals-into .result) _ _ (c .if1 .taken) (called .residuals-into .ensures .written)
+    column-far (epsOf _) (residuals _ _ _) _ _ _ _ _ _ _ _ (moved .before .param-eps .ensures) (moved .perturbed .ensures) (called .residuals-into .result) _ _ (c .if1 .taken) (called .residuals-into .ensures)
 
 array-share-prefix-column : tie.Need-array-share-prefix-column
 array-share-prefix-column c = omega (arith, c .before .before .before .before .before .before .before .before .before .before .before .before .pre .1 .few)
@@ -44,7 +44,7 @@ returns-2 c =
     let moved = called .before .before in
     let pre = moved .before .before .before .before .before .before .before .before .pre in
     column-put (epsOf _) (residuals _ _ _) _ _ _ _ _ _ _ _ (moved .before .param-eps .ensures) (moved .perturbed .ensures) (called .residuals-into .result) _ _ _ (past .if1 .left)
-    (called .residuals-into .ensures .written) (pre .2) (put .put-column .ensures)
+    (called .residuals-into .ensures) (pre .2) (put .put-column .ensures)
 
 pub jacobian-column-spec : {M : Type 1} → statement M
 jacobian-column-spec =

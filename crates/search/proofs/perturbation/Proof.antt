@@ -1,6 +1,5 @@
 -- `perturbation` meets its contract. Assumes nothing.
-use Rattle.float.specs.Ops.{one-bits}
-use Rattle.monna.specs.Digits.{raised}
+use Rattle.float.specs.Ops.{one-bits, raised}
 use Rattle.search.specs.Step.{perturbationOf}
 use borrow.Author.Needs.{needs}
 use Rattle.search.proofs.perturbation.Statement.{statement}

@@ -2,13 +2,13 @@
 use lib.Ieee.{ofBits, round}
 use Rattle.float.specs.Ops.{one}
 use Rattle.float.specs.Ops.{largest}
-use Rattle.book.specs.Book.{opening}
+use Rattle.book.specs.Book.{openBook}
 use mathlib.Core.Path.{refl}
 use Rattle.trials.proofs.open.Statement.{statement}
 use Rattle.trials.proofs.open.Tie as tie
 
 returns : tie.Need-returns
-unfolding opening one largest ofBits round
+unfolding openBook one largest ofBits round
 returns c = refl
 
 pub open-spec : {M : Type 1} → statement M

@@ -5,8 +5,8 @@ use mathlib.Core.Path.{ap}
 use Prim.Native.Nat.{_<_}
 use native.Mathlib.Nat.{div-lt-self}
 use borrow.Author.Tests.{eq-eqb, ne-eqb}
-use Rattle.float.specs.Ops.{_⊘_, one, one-bits}
-use Rattle.monna.specs.Digits.{num, raised, valuation, gap, distanceOf}
+use Rattle.float.specs.Ops.{_⊘_, one, one-bits, raised}
+use Rattle.monna.specs.Digits.{num, valuation, gap, distanceOf}
 use Rattle.monna.proofs.Digits.{Counting, count, all-counted, still, gap-pos}
 use Rattle.monna.proofs.inner.distance_value.Statement.{statement}
 use Rattle.monna.proofs.inner.distance_value.Tie as tie
