@@ -1,0 +1,4 @@
+pub mod Sorts
+pub mod Orders
+pub mod Arranges
+pub mod Sets
