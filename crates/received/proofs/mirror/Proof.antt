@@ -26,6 +26,9 @@ add-end c = let l = c .before .before in omega (arith, pass-room _ _ (l .loop .i
 centers-read : tie.Need-shared-slice-read-mirror-pass Inv-loop μ-loop
 centers-read c = let l = c .before .before .before in omega (arith, c .before .before .loop-test .taken, l .loop .inv .1 .centred)
 
+part-offset : tie.Need-mul-mirror-pass-2 Inv-loop μ-loop
+part-offset c = let l = c .before .before .before in omega (arith, pass-room _ _ (l .loop .inv .1) (l .loop .inv .2) (c .before .before .loop-test .taken), l .loop .inv .1 .small)
+
 part-end : tie.Need-part-mirror-pass-end Inv-loop μ-loop
 part-end c = let l = c .before .before .before in pass-room _ _ (l .loop .inv .1) (l .loop .inv .2) (c .before .before .loop-test .taken)
 
@@ -53,7 +56,7 @@ mirror-spec =
     add-end
     (λ c. search needs)
     centers-read
-    (λ c. search needs)
+    part-offset
     (λ c. search needs)
     (λ c. search needs)
     part-end
