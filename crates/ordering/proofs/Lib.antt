@@ -2,3 +2,4 @@ pub mod Sorts
 pub mod Orders
 pub mod Arranges
 pub mod Sets
+pub mod Picks
