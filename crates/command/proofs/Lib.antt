@@ -3,3 +3,4 @@ pub mod Gathers
 pub mod Sets
 pub mod Counted
 pub mod Reports
+pub mod AnyOrder

@@ -1,15 +1,16 @@
 -- Bytes copied to the first places of an array. Assumes nothing.
-use mathlib.Core.Path.{_≡_, sym, ap, _∙_}
+use mathlib.Core.Path.{_≡_, refl, sym, ap, _∙_}
 use mathlib.Core.List.{List, [], _∷_, _++_, append-assoc}
 use Prim.Native.Nat.{ℕ, suc, _+_, _≤_, _<_}
 use native.Mathlib.Numerals.{add-one}
 use native.Mathlib.Omega.{arith}
 use lib.ListN.{length, getD, take, drop, set, length-append, length-drop}
 use lib.Seq.{take-suc, drop-cons, set-at, take-length, length-take-le, take-append-seam}
-use mathlib.Core.Bool.{true, false}
+use mathlib.Core.Bool.{Bool, true, false, _&&_, _||_}
+use lib.Dec.{leb}
 use Rattle.passes.specs.File.{nameOf}
 use Rattle.passes.specs.declared.file.PassFile.{PassFile}
-use Rattle.command.specs.Gather.{First, Keeps}
+use Rattle.command.specs.Gather.{First, isNew, Keeps}
 use Rattle.command.specs.declared.gather.Name.{Name}
 
 pub copy-more : (from old out : List ℕ) (p : ℕ) → p < length from → p < length old → out ≡ take p from ++ drop p old
@@ -39,12 +40,27 @@ named from old out n e r h =
 
 -- ---- the name kept
 
-pub kept-name : (name : Name) (file : List ℕ) (r : PassFile) (out : List ℕ) → name .seen ≡ true → Keeps name file r out out name
-kept-name name file r out e = record { seen = simp e; is = simp e; room = λ h. h }
+or-false : (b : Bool) → b ≡ (b || false)
+or-false true = refl
+or-false false = refl
 
-pub no-new-name : (name : Name) (file : List ℕ) (r : PassFile) (out : List ℕ) → name .seen ≡ false → r .«name_seen» ≡ false → Keeps name file r out out name
-no-new-name name file r out e g = record { seen = simp (e, g); is = simp (e, g); room = λ h. h }
+or-true : (b : Bool) → (b || true) ≡ true
+or-true true = refl
+or-true false = refl
 
-pub new-name : (name : Name) (file : List ℕ) (r : PassFile) (out out′ : List ℕ) {from : List ℕ} {n : ℕ} → name .seen ≡ false → r .«name_seen» ≡ true → from ≡ nameOf file r
-    → First n out′ (take (length out) from) → Keeps name file r out out′ (record { seen = true; size = n })
-new-name name file r out out′ e g f h = record { seen = simp (e, g); is = h .is ∙ simp (e, g, f); room = λ _. h .room }
+and-first : (a b : Bool) → (a && b) ≡ true → a ≡ true
+and-first true b e = refl
+and-first false b e = e
+
+pub no-new-name : (name : Name) (file : List ℕ) (r : PassFile) (key : ℕ) (out : List ℕ) → r .«name_seen» ≡ false → Keeps name file r key out out name
+unfolding isNew
+no-new-name name file r key out g = record { seen = simp g (or-false (name .seen)); since = simp g; is = simp g; room = λ h. h }
+
+pub kept-name : (name : Name) (file : List ℕ) (r : PassFile) (key : ℕ) (out : List ℕ) → r .«name_seen» ≡ true → (name .seen && leb (name .key) key) ≡ true → Keeps name file r key out out name
+unfolding isNew
+kept-name name file r key out g e = record { seen = simp (g, and-first (name .seen) (leb (name .key) key) e); since = simp (g, e); is = simp (g, e); room = λ h. h }
+
+pub new-name : (name : Name) (file : List ℕ) (r : PassFile) (key : ℕ) (out out′ : List ℕ) {from : List ℕ} {n : ℕ} → r .«name_seen» ≡ true → (name .seen && leb (name .key) key) ≡ false → from ≡ nameOf file r
+    → First n out′ (take (length out) from) → Keeps name file r key out out′ (record { seen = true; size = n; key = key })
+unfolding isNew
+new-name name file r key out out′ g e f h = record { seen = simp g (sym (or-true (name .seen))); since = simp (g, e); is = h .is ∙ simp (g, e, f); room = λ _. h .room }

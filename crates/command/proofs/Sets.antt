@@ -1,20 +1,27 @@
 -- The set that a file more makes, from what `add_file` and `keep_name` promise; and files gathered one by one. Assumes nothing.
 use mathlib.Core.Path.{_≡_, refl, sym, ap, subst, _∙_}
-use mathlib.Core.Bool.{Bool, true, false, true≢false, cond, _||_}
-use mathlib.Core.List.{List, [], _∷_, _++_, flatMap, map-append, append-nil, append-assoc}
+use mathlib.Core.Bool.{Bool, true, false, true≢false, not, cond, _&&_, _||_}
+use mathlib.Core.List.{List, [], _∷_, _++_, map, flatMap, map-append, append-nil, append-assoc}
 use mathlib.Core.Option.{Option, none, some}
 use Prim.Native.Nat.{ℕ, zero, suc, _+_, _-_, _≤_, _<_, zero-le}
+use native.Mathlib.Nat.{zero-add, suc-add}
 use native.Mathlib.Omega.{arith}
-use lib.Dec.{eqb}
+use lib.Dec.{leb, eqb}
 use lib.IntN.{ℤ}
 use lib.Ieee.{Float}
-use lib.ListN.{length, take, length-append}
+use lib.ListN.{length, take, drop, length-append}
+use lib.Seq.{take-nil, drop-at, length-take-le}
 use borrow.Author.Tests.{ne-eqb}
-use Rattle.loops.specs.Loop.{isSome, orElse}
+use Rattle.loops.specs.Loop.{isSome}
+use Rattle.pass_set.specs.PassSet.{total}
+use Rattle.pass_set.proofs.Laws.{total-append}
+use Rattle.ordering.specs.Sort.{sortOn, pick, pickMore}
+use Rattle.ordering.specs.Order.{firstKey}
+use Rattle.ordering.proofs.Picks.{pick-last}
 use Rattle.passes.specs.File.{scanned, zeros, nameOf}
 use Rattle.passes.specs.File as File
 use Rattle.passes.specs.declared.file.PassFile.{PassFile}
-use Rattle.command.specs.Gather.{countIn, centerIn, timesIn, freqsIn, firstName, unknown, arrays, Arrays, First, Holds, isFull, refusalOf, roomless, answer, Adds, Keeps, Opens, stoppedBy, Extends, Gathers, Continues}
+use Rattle.command.specs.Gather.{countIn, centerIn, timesIn, freqsIn, keyIn, hasName, namer, nameFrom, keyFrom, unknown, arrays, Arrays, First, Holds, isFull, refusalOf, roomless, answer, Adds, isNew, Keeps, Opens, stoppedBy, Extends, Gathers, Continues}
 use Rattle.command.specs.declared.gather.Name.{Name}
 use Rattle.command.specs.declared.gather.Gathered.{Gathered}
 use Rattle.command.proofs.Gathers.{test-zero, accepts}
@@ -26,46 +33,64 @@ unfolding flatMap
 flat-more f [] x = append-nil (f x)
 flat-more f (y ∷ ys) x = ap (f y ++_) (flat-more f ys x) ∙ sym (append-assoc (f y) (flatMap f ys) (f x))
 
--- the first of two
-abbrev either : {A : Type 0} → Option A → Option A → Option A
-either o p = cond (isSome o) o p
+-- what is picked of one file more: b says that it has a name, c that it is not earlier
+seen-test : (o : Option (List ℕ)) (file : List ℕ) → (isSome o || hasName file) ≡ isSome (pickMore keyIn hasName o file)
+seen-test none file = by (hasName file)
+  where
+    by : (b : Bool) → b ≡ isSome (cond b (some file) none)
+    by true = refl
+    by false = refl
+seen-test (some f) file = by (hasName file) (leb (keyIn f) (keyIn file))
+  where
+    by : (b c : Bool) → true ≡ isSome (cond b (cond c (some f) (some file)) (some f))
+    by true true = refl
+    by true false = refl
+    by false c = refl
 
-either-first : {A : Type 0} (b : Bool) (x : A) (o p more : Option A) → more ≡ either o p → cond b (some x) more ≡ either (cond b (some x) o) p
-either-first true x o p more e = refl
-either-first false x o p more e = e
-
-first-more : (files : List (List ℕ)) (file : List ℕ) → firstName (files ++ file ∷ []) ≡ either (firstName files) (firstName (file ∷ []))
-unfolding firstName
-first-more [] file = refl
-first-more (f ∷ files) file = either-first (scanned f .«name_seen») (nameOf f (scanned f)) (firstName files) _ _ (first-more files file)
-
-seen-either : {A : Type 0} (o : Option A) (b : Bool) (x : A) → (isSome o || b) ≡ isSome (either o (cond b (some x) none))
-seen-either none true x = refl
-seen-either none false x = refl
-seen-either (some y) b x = refl
-
-name-either : (o : Option (List ℕ)) (b : Bool) (x u : List ℕ) (n : ℕ)
-    → cond (isSome o) (take n (orElse o u)) (cond b (take n x) (take n (orElse o u))) ≡ take n (orElse (either o (cond b (some x) none)) u)
-name-either none true x u n = refl
-name-either none false x u n = refl
-name-either (some y) b x u n = refl
+-- so are its name and key, and whatever else is made of it
+from-test : {B : Type 0} (g : Option (List ℕ) → B) (o : Option (List ℕ)) (file : List ℕ)
+    → cond (hasName file && not (isSome o && leb (keyFrom o) (keyIn file))) (g (some file)) (g o) ≡ g (pickMore keyIn hasName o file)
+from-test g none file = by (hasName file)
+  where
+    by : (b : Bool) → cond (b && true) (g (some file)) (g none) ≡ g (cond b (some file) none)
+    by true = refl
+    by false = refl
+from-test g (some f) file = by (hasName file) (leb (keyIn f) (keyIn file))
+  where
+    by : (b c : Bool) → cond (b && not c) (g (some file)) (g (some f)) ≡ g (cond b (cond c (some f) (some file)) (some f))
+    by true true = refl
+    by true false = refl
+    by false c = refl
 
 module _ (files : List (List ℕ)) (file : List ℕ) where
-  seen-more : (isSome (firstName files) || scanned file .«name_seen») ≡ isSome (firstName (files ++ file ∷ []))
-  unfolding firstName
-  seen-more = seen-either (firstName files) (scanned file .«name_seen») (nameOf file (scanned file)) ∙ ap isSome (sym (first-more files file))
+  namer-more : namer (files ++ file ∷ []) ≡ pickMore keyIn hasName (namer files) file
+  unfolding namer
+  namer-more = pick-last keyIn hasName files file
 
-  name-more : (n : ℕ) → cond (isSome (firstName files)) (take n (orElse (firstName files) unknown)) (cond (scanned file .«name_seen») (take n (nameOf file (scanned file))) (take n (orElse (firstName files) unknown)))
-      ≡ take n (orElse (firstName (files ++ file ∷ [])) unknown)
-  unfolding firstName
-  name-more n =
-      name-either (firstName files) (scanned file .«name_seen») (nameOf file (scanned file)) unknown n
-      ∙ ap (λ (o : Option (List ℕ)). take n (orElse o unknown)) (sym (first-more files file))
+  seen-more : (isSome (namer files) || hasName file) ≡ isSome (namer (files ++ file ∷ []))
+  seen-more = seen-test (namer files) file ∙ ap isSome (sym namer-more)
+
+  from-more : {B : Type 0} (g : Option (List ℕ) → B) → cond (hasName file && not (isSome (namer files) && leb (keyFrom (namer files)) (keyIn file))) (g (some file)) (g (namer files)) ≡ g (namer (files ++ file ∷ []))
+  from-more g = from-test g (namer files) file ∙ ap g (sym namer-more)
 
 -- what is kept, said of the same name and file
-same-name : {s s′ : Bool} {o o′ : List ℕ} {q q′ : PassFile} (file : List ℕ) (n : ℕ) → s ≡ s′ → o ≡ o′ → q ≡ q′
-    → cond s o (cond (q .«name_seen») (take n (nameOf file q)) o) ≡ cond s′ o′ (cond (q′ .«name_seen») (take n (nameOf file q′)) o′)
-same-name file n e f h = rw (e, f, h)
+new-said : (name : Name) {q q′ : PassFile} {key key′ : ℕ} {s : Bool} {k : ℕ} → name .seen ≡ s → name .key ≡ k → q ≡ q′ → key ≡ key′ → isNew name q key ≡ (q′ .«name_seen» && not (s && leb k key′))
+unfolding isNew
+new-said name e f g h = rw (e, f, g, h)
+
+cond-said : {B : Type 0} {b b′ : Bool} {x x′ y y′ : B} → b ≡ b′ → x ≡ x′ → y ≡ y′ → cond b x y ≡ cond b′ x′ y′
+cond-said e f g = rw (e, f, g)
+
+drop-take : {A : Type 0} (s n : ℕ) (l : List A) → drop s (take (s + n) l) ≡ take n (drop s l)
+drop-take zero n l = rw zero-add
+drop-take (suc s) n [] = rw (suc-add, take-nil)
+drop-take (suc s) n (x ∷ l) = rw suc-add (drop-take s n l)
+
+-- the samples of a file behind s others
+behind : (s n : ℕ) (times times′ : List ℤ) (file : List ℕ) → s ≤ length times → take (s + n) times′ ≡ take s times ++ timesIn file → take (s + n - s) (drop s times′) ≡ timesIn file
+behind s n times times′ file h e =
+    let m : s + n - s ≡ n = omega arith in
+    ap (λ (k : ℕ). take k (drop s times′)) m ∙ sym (drop-take s n times′) ∙ ap (drop s) e ∙ drop-at (take s times) (timesIn file) s (length-take-le s times h)
 
 -- ---- the file's refusal
 
@@ -87,6 +112,10 @@ module _ (file : List ℕ) where
 
 more-first : {A : Type 0} {n m : ℕ} {xs xs′ old : List A} (new all : List A) → First n xs old → take m xs′ ≡ take n xs ++ new → m ≤ length xs′ → all ≡ old ++ new → First m xs′ all
 more-first new all f e h a = record { room = h; is = e ∙ ap (λ l. l ++ new) (f .is) ∙ sym a }
+
+one-more : {t s n k : ℕ} → t ≡ s → k ≡ n → t + total (n ∷ []) ≡ s + k
+unfolding total
+one-more e f = omega (arith, e, f)
 
 -- ---- `add`
 
@@ -117,12 +146,17 @@ module _ (file : List ℕ) (g : Gathered) (counts counts′ : List ℕ) (times t
     pub sample-room : g .samples + q .count ≤ length freqs
     sample-room = subst (λ (r : PassFile). g .samples + r .count ≤ length freqs) (sym read) (h .appended z .freqs-room)
 
-    pub add-more : (name′ : List ℕ) {n : Name} → length counts′ ≡ length counts → length times′ ≡ length times → length freqs′ ≡ length freqs → length centers′ ≡ length centers → length name′ ≡ length name
-        → Keeps (g .name) file q name name′ n
+    pub times-room : g .samples + q .count ≤ length times
+    times-room = subst (λ (r : PassFile). g .samples + r .count ≤ length times) (sym read) (h .appended z .times-room)
+
+    pub add-more : (name′ : List ℕ) {n : Name} {key : ℕ} → length counts′ ≡ length counts → length times′ ≡ length times → length freqs′ ≡ length freqs → length centers′ ≡ length centers → length name′ ≡ length name
+        → key ≡ firstKey (take (g .samples + q .count - g .samples) (drop (g .samples) times′))
+        → Keeps (g .name) file q key name name′ n
         → Extends file g (arrays counts times freqs centers name) (arrays counts′ times′ freqs′ centers′ name′) (record { failed = false; refusal = 0; passes = g .passes + 1; samples = g .samples + q .count; name = n })
-    add-more name′ {n} lc lt lf lm ln k =
+    add-more name′ {n} {key} lc lt lf lm ln w k =
         let x = h .appended z in
         let size : q .count ≡ countIn file = ap (λ (r : PassFile). r .count) read in
+        let since : key ≡ keyIn file = w ∙ ap firstKey (behind (g .samples) (q .count) times times′ file (omega (arith, times-room)) (rw size (x .timed))) in
         record {
           says = sym z ∙ number;
           stopped = λ e. absurd (omega (arith, e));
@@ -134,11 +168,15 @@ module _ (file : List ℕ) (g : Gathered) (counts counts′ : List ℕ) (times t
             centred = more-first (centerIn file ∷ []) _ (a .centred) (x .centred) (omega (arith, x .centers-room, lm)) (map-append centerIn files (file ∷ []));
             timed = more-first (timesIn file) _ (a .timed) (rw size (x .timed)) (omega (arith, x .times-room, lt, size)) (flat-more timesIn files file);
             heard = more-first (freqsIn file) _ (a .heard) (rw size (x .heard)) (omega (arith, x .freqs-room, lf, size)) (flat-more freqsIn files file);
-            seen = k .seen ∙ ap (λ (b : Bool). b || q .«name_seen») (a .seen) ∙ ap (λ (r : PassFile). isSome (firstName files) || r .«name_seen») read ∙ seen-more files file;
+            sized = ap total (map-append countIn files (file ∷ [])) ∙ total-append (map countIn files) (countIn file ∷ []) ∙ one-more (a .sized) size;
+            seen = k .seen ∙ ap (λ (b : Bool). b || q .«name_seen») (a .seen) ∙ ap (λ (r : PassFile). isSome (namer files) || r .«name_seen») read ∙ seen-more files file;
+            since = k .since ∙ cond-said (new-said (g .name) (a .seen) (a .since) read since) since (a .since) ∙ from-more files file keyFrom;
             named = record {
               room = k .room (a .named .room);
-              is = k .is ∙ same-name file (length name) (a .seen) (a .named .is) read ∙ name-more files file (length name)
-                  ∙ ap (λ (m : ℕ). take m (orElse (firstName (files ++ file ∷ [])) unknown)) (sym ln);
+              is = k .is
+                  ∙ cond-said (new-said (g .name) (a .seen) (a .since) read since) (ap (λ (r : PassFile). take (length name) (nameOf file r)) read) (a .named .is)
+                  ∙ from-more files file (λ o. take (length name) (nameFrom o))
+                  ∙ ap (λ (m : ℕ). take m (nameFrom (namer (files ++ file ∷ [])))) (sym ln);
             };
           };
         }
@@ -146,8 +184,8 @@ module _ (file : List ℕ) (g : Gathered) (counts counts′ : List ℕ) (times t
 -- ---- before the first file
 
 pub opened : (name name′ : List ℕ) {n : ℕ} → length name′ ≡ length name → First n name′ (take (length name) unknown)
-    → Opens name′ (record { failed = false; refusal = 0; passes = 0; samples = 0; name = record { seen = false; size = n } })
-unfolding firstName flatMap
+    → Opens name′ (record { failed = false; refusal = 0; passes = 0; samples = 0; name = record { seen = false; size = n; key = 0 } })
+unfolding namer pick sortOn flatMap total
 opened name name′ e h =
     record {
       going = refl;
@@ -157,7 +195,9 @@ opened name name′ e h =
         centred = record { room = zero-le; is = refl };
         timed = record { room = zero-le; is = refl };
         heard = record { room = zero-le; is = refl };
+        sized = refl;
         seen = refl;
+        since = refl;
         named = record { room = h .room; is = h .is ∙ ap (λ (m : ℕ). take m unknown) (sym e) };
       };
     }
@@ -165,7 +205,7 @@ opened name name′ e h =
 -- ---- one file after the other
 
 same-set : {files : List (List ℕ)} {g : Gathered} {a : Arrays} (k : ℕ) → Holds files g a → Holds files (stoppedBy k g) a
-same-set k h = record { passes = h .passes; counted = h .counted; centred = h .centred; timed = h .timed; heard = h .heard; seen = h .seen; named = h .named }
+same-set k h = record { passes = h .passes; counted = h .counted; centred = h .centred; timed = h .timed; heard = h .heard; sized = h .sized; seen = h .seen; since = h .since; named = h .named }
 
 module _ (g : Gathered) (a : Arrays) where
   pub stays : (k : ℕ) → Continues g a a (stoppedBy k g)

@@ -1,7 +1,7 @@
 -- Pass files gathered into one pass set, a pass for each file.
 use Prim.Native.Nat.{ℕ, _+_, _-_, _<_, _≤_}
 use mathlib.Core.Path.{_≡_}
-use mathlib.Core.Bool.{Bool, true, false, cond, _||_}
+use mathlib.Core.Bool.{Bool, true, false, not, cond, _&&_, _||_}
 use mathlib.Core.List.{List, [], _∷_, _++_, map, flatMap}
 use mathlib.Core.Option.{Option, none, some}
 use lib.Dec.{leb, ltb, eqb}
@@ -9,7 +9,10 @@ use lib.IntN.{ℤ}
 use lib.Ieee.{Float}
 use lib.ListN.{length, take}
 use Rattle.refusal.specs.Numbers as refusal
-use Rattle.loops.specs.Loop.{isSome, orElse}
+use Rattle.loops.specs.Loop.{isSome}
+use Rattle.pass_set.specs.PassSet.{total}
+use Rattle.ordering.specs.Sort.{sortOn, pick}
+use Rattle.ordering.specs.Order.{firstKey}
 use Rattle.passes.specs.Text.{lines}
 use Rattle.passes.specs.File.{scanned, zeros, timesOf, freqsOf, nameOf}
 use Rattle.passes.specs.File as File
@@ -32,14 +35,32 @@ timesIn file = timesOf (lines 0 file)
 abbrev pub freqsIn : List ℕ → List Float
 freqsIn file = freqsOf (lines 0 file)
 
--- the first name that one of the files has
-unfoldable pub firstName : List (List ℕ) → Option (List ℕ)
-firstName [] = none
-firstName (file ∷ files) = cond (scanned file .«name_seen») (some (nameOf file (scanned file))) (firstName files)
+abbrev pub hasName : List ℕ → Bool
+hasName file = scanned file .«name_seen»
+
+abbrev pub nameIn : List ℕ → List ℕ
+nameIn file = nameOf file (scanned file)
+
+-- where it belongs in the order of time: by its first sample
+abbrev pub keyIn : List ℕ → ℕ
+keyIn file = firstKey (timesIn file)
+
+-- the first file in the order of time that has a name
+unfoldable pub namer : List (List ℕ) → Option (List ℕ)
+namer files = pick keyIn hasName (sortOn keyIn files)
 
 -- UNKNOWN
 abbrev pub unknown : List ℕ
 unknown = 85 ∷ 78 ∷ 75 ∷ 78 ∷ 79 ∷ 87 ∷ 78 ∷ []
+
+-- the name to print, and where its file belongs
+abbrev pub nameFrom : Option (List ℕ) → List ℕ
+nameFrom none = unknown
+nameFrom (some file) = nameIn file
+
+abbrev pub keyFrom : Option (List ℕ) → ℕ
+keyFrom none = 0
+keyFrom (some file) = keyIn file
 
 -- the arrays that are lent
 pub record Arrays : Type 0 where
@@ -58,15 +79,17 @@ pub record First {A : Type 0} (n : ℕ) (all these : List A) : Type 0 where
   pub is : take n all ≡ these
 
 -- The first places hold the pass set of the files: counts and centres one for each, samples one file's after the other's, and the
--- first name, or UNKNOWN, as far as there is room.
+-- name of the first file in time that has one, or UNKNOWN, as far as there is room.
 pub record Holds (files : List (List ℕ)) (g : Gathered) (a : Arrays) : Type 0 where
   pub passes : g .passes ≡ length files
   pub counted : First (g .passes) (a .counts) (map countIn files)
   pub centred : First (g .passes) (a .centers) (map centerIn files)
   pub timed : First (g .samples) (a .times) (flatMap timesIn files)
   pub heard : First (g .samples) (a .freqs) (flatMap freqsIn files)
-  pub seen : g .name .seen ≡ isSome (firstName files)
-  pub named : First (g .name .size) (a .name) (take (length (a .name)) (orElse (firstName files) unknown))
+  pub sized : total (map countIn files) ≡ g .samples
+  pub seen : g .name .seen ≡ isSome (namer files)
+  pub since : g .name .key ≡ keyFrom (namer files)
+  pub named : First (g .name .size) (a .name) (take (length (a .name)) (nameFrom (namer files)))
 
 -- ---- a file's pass behind p passes and s samples
 
@@ -110,10 +133,15 @@ pub record Adds (file : List ℕ) (p s : ℕ) (counts counts′ : List ℕ) (tim
 
 -- ---- its name
 
--- a name that was seen stays; else the file's is taken, if it has one, as far as there is room
-pub record Keeps (name : Name) (file : List ℕ) (r : PassFile) (bytes bytes′ : List ℕ) (n : Name) : Type 0 where
+-- the file has a name, and none of a file that is not later was seen
+unfoldable pub isNew : Name → PassFile → ℕ → Bool
+isNew name r key = r .«name_seen» && not (name .seen && leb (name .key) key)
+
+-- then it is taken, as far as there is room; else the name stays
+pub record Keeps (name : Name) (file : List ℕ) (r : PassFile) (key : ℕ) (bytes bytes′ : List ℕ) (n : Name) : Type 0 where
   pub seen : n .seen ≡ (name .seen || r .«name_seen»)
-  pub is : take (n .size) bytes′ ≡ cond (name .seen) (take (name .size) bytes) (cond (r .«name_seen») (take (length bytes) (nameOf file r)) (take (name .size) bytes))
+  pub since : n .key ≡ cond (isNew name r key) key (name .key)
+  pub is : take (n .size) bytes′ ≡ cond (isNew name r key) (take (length bytes) (nameOf file r)) (take (name .size) bytes)
   pub room : name .size ≤ length bytes → n .size ≤ length bytes′
 
 -- ---- one file more

@@ -1,6 +1,8 @@
-// Pass files gathered into one pass set, a pass for each file, and the satellite's name from the first file that has one.
+// Pass files gathered into one pass set, a pass for each file, and the satellite's name from the first file in time that has one.
 ghost use mathlib.Core.Path.{_≡_};
+ghost use mathlib.Core.Bool.{_&&_};
 ghost use mathlib.Core.List.{_++_};
+ghost use lib.Dec.{leb};
 ghost use Prim.Native.Nat.{_≤_};
 ghost use lib.ListN.{length, take, drop};
 ghost use Rattle.passes.specs.File.{zeros};
@@ -8,10 +10,11 @@ ghost use Rattle.command.specs.Gather.{arrays, First, Adds, Keeps, Opens
 use passes::file;
 use passes::file::PassFile;
 
-// Whether a name was seen, and how many bytes the name to print has.
+// Whether a name was seen, how many bytes the name to print has, and where its file belongs in the order of time.
 pub struct Name {
     pub seen: bool,
     pub size: usize,
+    pub key: u64,
 }
 
 // The set so far, which stands in the first places of the arrays. `failed`: the last file added nothing, by this refusal, or 0 where
@@ -100,18 +103,31 @@ fn put(from: &[u8], out: &mut [u8]) -> usize
     n
 }
 
-// After a file: its name, if it has one and none was seen before.
-fn keep_name(name: Name, file: &[u8], r: PassFile, out: &mut [u8]) -> Name
-    ensures { λ n. ⌜ Keeps name (now (file .entry)) r (now (out .entry)) (now (out .exit)) n ⌝ }
+fn stays(name: Name, key: u64) -> bool
+    ensures { λ r. ⌜ r ≡ (name .seen && leb (name .key) key) ⌝ }
 {
-    if name.seen {
-        return name;
+    if !name.seen {
+        return false;
     }
+    name.key <= key
+}
+
+// After a file: its name, if it has one and none of a file that is not later was seen.
+fn keep_name(name: Name, file: &[u8], r: PassFile, key: u64, out: &mut [u8]) -> Name
+    ensures { λ n. ⌜ Keeps name (now (file .entry)) r key (now (out .entry)) (now (out .exit)) n ⌝ }
+{
     if !r.name_seen {
         return name;
     }
+    if stays(name, key) {
+        return name;
+    }
     let size = put(file::name(file, r), out);
-    Name { seen: true, size }
+    Name {
+        seen: true,
+        size,
+        key,
+    }
 }
 
 // Before the first file: no pass, and UNKNOWN. The command lends 256 bytes for the name, and no line of a file has more.
@@ -119,7 +135,11 @@ pub fn no_files(name: &mut [u8]) -> Gathered
     ensures { λ r. ⌜ Opens (now (name .exit)) r ⌝ }
 {
     let size = put(b"UNKNOWN", name);
-    let unknown = Name { seen: false, size };
+    let unknown = Name {
+        seen: false,
+        size,
+        key: 0,
+    };
     Gathered {
         failed: false,
         refusal: 0,
@@ -161,13 +181,15 @@ pub fn add(
     if k != 0 {
         return stopped(g, k);
     }
-    let n = r.count;
-    let kept = keep_name(g.name, file, r, name);
+    let s = g.samples;
+    let e = s + r.count;
+    let key = ordering::first_key(&times[s..e]);
+    let kept = keep_name(g.name, file, r, key, name);
     Gathered {
         failed: false,
         refusal: 0,
         passes: g.passes + 1,
-        samples: g.samples + n,
+        samples: e,
         name: kept,
     }
 }

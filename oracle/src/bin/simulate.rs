@@ -1,8 +1,9 @@
 //! simulate passes SEED PASSES SAMPLES NAME DIR: writes a simulated set to DIR as pass files, and the words that fit_passes needs.
 //! simulate lines SEED PASSES SAMPLES NAME: the element lines of the patched original for that set, or its refusal.
 //! simulate found PASSES SAMPLES FIRST COUNT: fits the sets of COUNT seeds by the patched original and says how many gave the true orbit.
-use common::Moment;
-use common::simulator::{Truth, known};
+//! simulate noise PASSES SAMPLES FIRST COUNT: the same, with each fit's residual beside the noise of its samples, and a table of both.
+use common::simulator::{Case, Truth, known};
+use common::{Moment, Set};
 use patched::judge;
 
 /// Where the fitted orbit is found: nowhere further than this from the true one, at no sample's moment, in metres.
@@ -43,6 +44,67 @@ fn found(passes: usize, samples: usize, first: u64, count: u64) {
     println!("{passes} passes, {samples} samples: {count} sets, {accepted} accepted, {near} within 100 km of the true satellite at every sample, {angles} within 1 degree of inclination and 0.1 revolutions a day");
 }
 
+/// The noise of the samples, in Hz, from the sentence of docs/DECISIONS.md alone: over every five neighbouring samples of a pass with
+/// unlike moments, the fourth divided difference of the frequencies over the root of the sum of its squared weights; of all these
+/// the root mean square. NaN where there are none.
+fn noise(set: &Set) -> f64 {
+    let (mut sum, mut windows, mut at) = (0.0, 0.0, 0);
+    for &n in &set.counts {
+        let pass = at..at + n as usize;
+        at = pass.end;
+        for (t, f) in set.times[pass.clone()].windows(5).zip(set.freqs[pass].windows(5)) {
+            let weight = |k: usize| (0..5).filter(|&j| j != k).map(|j| (t[k] - t[j]) as f64 * 1e-9).product::<f64>().recip();
+            let w: Vec<f64> = (0..5).map(weight).collect();
+            if w.iter().all(|w| w.is_finite()) {
+                let difference: f64 = (0..5).map(|k| w[k] * f[k]).sum();
+                sum += difference * difference / w.iter().map(|w| w * w).sum::<f64>();
+                windows += 1.0;
+            }
+        }
+    }
+    (sum / windows).sqrt()
+}
+
+/// The root of the mean square of the samples' residuals, in Hz.
+fn residual(f: &judge::Fit, c: &Case) -> f64 {
+    let (mut sum, mut at, mut q) = (0.0, 0, 0);
+    let center = c.set.centers[c.set.counts.iter().position(|&n| n > 0).unwrap()];
+    for &n in &c.set.counts {
+        let since = at;
+        for k in at..at + n as usize {
+            let b = f.biases[q];
+            let m = |k: usize| Moment::of_nanos(c.set.times[k]);
+            let shift = judge::poly(f.orbit, Moment::of_nanos(f.epoch), m(k), b[0], [b[1], b[2], b[3]], m(since), center, c.receiver).unwrap();
+            sum += (c.set.freqs[k] - (center + shift)).powi(2);
+        }
+        at += n as usize;
+        q += (n > 0) as usize;
+    }
+    (sum / at as f64).sqrt()
+}
+
+fn doubt(passes: usize, samples: usize, first: u64, count: u64) {
+    // By right and wrong, then by at the noise and doubtful.
+    let mut table = [[0; 2]; 2];
+    for seed in first..first + count {
+        let (c, truth) = known(seed, passes, samples);
+        match judge::fit(&c.set, c.receiver, c.a, c.i) {
+            Err(k) => println!("{seed} refused {k}"),
+            Ok(f) => {
+                let far = distance(&f, &truth, &c.set.times);
+                let (rms, estimate) = (residual(&f, &c), noise(&c.set));
+                let at_the_noise = rms <= 1.25 * estimate.max(0.5);
+                table[!(far < NEAR) as usize][!at_the_noise as usize] += 1;
+                println!("{seed} {:.1} km, residual {rms:.3} Hz, noise {estimate:.3} Hz{}", far / 1000.0, if at_the_noise { "" } else { ", doubtful" });
+            }
+        }
+    }
+    println!(
+        "{passes} passes, {samples} samples, seeds {first} to {}: right and at the noise {}, right and doubtful {}, wrong and at the noise {}, wrong and doubtful {}",
+        first + count - 1, table[0][0], table[0][1], table[1][0], table[1][1]
+    );
+}
+
 fn date(t: i64) -> String {
     judge::time(Moment::of_nanos(t)).to_rfc3339_opts(chrono::SecondsFormat::Nanos, true)
 }
@@ -53,6 +115,9 @@ fn main() {
     match given.iter().map(|s| s.as_str()).collect::<Vec<_>>()[..] {
         ["found", passes, samples, first, count] => {
             found(number(passes) as usize, number(samples) as usize, number(first), number(count))
+        }
+        ["noise", passes, samples, first, count] => {
+            doubt(number(passes) as usize, number(samples) as usize, number(first), number(count))
         }
         ["passes", seed, passes, samples, name, dir] => {
             let c = known(number(seed), number(passes) as usize, number(samples) as usize).0;
@@ -79,7 +144,7 @@ fn main() {
             }
         }
         _ => {
-            eprintln!("simulate passes SEED PASSES SAMPLES NAME DIR, simulate lines SEED PASSES SAMPLES NAME, or simulate found PASSES SAMPLES FIRST COUNT");
+            eprintln!("simulate passes SEED PASSES SAMPLES NAME DIR, simulate lines SEED PASSES SAMPLES NAME, or simulate found or noise PASSES SAMPLES FIRST COUNT");
             std::process::exit(2);
         }
     }

@@ -1,0 +1,4 @@
+// The checking program on a file that is refused.
+fn main() {
+    check_line::program::run();
+}

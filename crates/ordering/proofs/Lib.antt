@@ -1,0 +1,5 @@
+pub mod Sorts
+pub mod Orders
+pub mod Arranges
+pub mod Sets
+pub mod Picks
