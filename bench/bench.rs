@@ -1,12 +1,14 @@
 //! bench [ROUNDS [NAME]]: the port against the published and the patched original, one thread, the same inputs; with NAME only the
 //! functions in whose name it stands.
-//! bench whole [ROUNDS [NAME]]: searches, single trials and whole fits of the port and the published original.
+//! bench whole [ROUNDS [NAME]]: searches, single trials and whole fits of the port and both originals, with their numbers of trials.
+//! bench growth [ROUNDS]: how the port's searches and trials grow with samples and passes.
 //!
 //! A round times every copy on all inputs, in turning order, by the thread's processor time, so that other programs on
 //! the machine count little. A copy's time is the median over the rounds; a ratio is taken within a round, and given as
 //! median and from the tenth to the ninetieth hundredth.
 use common::Moment;
 use common::numbers::Random;
+use common::simulator::Case;
 use std::cell::RefCell;
 use std::hint::black_box;
 
@@ -92,112 +94,186 @@ fn floats(inputs: &[f64], f: fn(f64) -> f64) -> Run<'_> {
     })
 }
 
-/// Two copies, port and published, in turning order; medians with the least and the greatest.
-fn whole(name: &str, rounds: usize, runs: [Run; 2]) {
+/// Three copies, port, patched and published, in turning order; medians with the least and the greatest. A run gives its number of trials, 0
+/// where it has none to count; that of the port and the patched original must be one.
+fn whole(name: &str, rounds: usize, runs: [Box<dyn Fn() -> usize + '_>; 3]) {
     if std::env::args().nth(3).is_some_and(|part| !name.contains(&part)) {
         return;
     }
-    let mut times = [vec![], vec![]];
+    let (mut times, mut trials) = ([vec![], vec![], vec![]], [0; 3]);
     for round in 0..rounds {
-        for k in 0..2 {
-            let which = (k + round) % 2;
+        for k in 0..3 {
+            let which = (k + round) % 3;
             let began = now();
-            runs[which]();
+            trials[which] = runs[which]();
             times[which].push(now() - began);
         }
     }
+    assert!(trials[0] == trials[1], "{name}: {} trials, patched {}", trials[0], trials[1]);
     let show = |v: Vec<f64>, unit: f64, places: usize| {
         let part = |p: f64| part(&v, p) * unit;
         format!("{:.places$} ({:.places$} to {:.places$})", part(0.5), part(0.0), part(1.0))
     };
-    let ratio = sorted((0..rounds).map(|n| times[0][n] / times[1][n]));
-    println!(
-        "| {name} | {} | {} | {} |",
-        show(sorted(times[0].iter().copied()), 1e3, 1),
-        show(sorted(times[1].iter().copied()), 1e3, 1),
-        show(ratio, 1.0, 2)
-    );
+    let time = |k: usize| show(sorted(times[k].iter().copied()), 1e3, 1);
+    let ratio = |k: usize| show(sorted((0..rounds).map(|n| times[0][n] / times[k][n])), 1.0, 2);
+    let counts = if trials[0] == 0 { String::new() } else { format!("{}, {}", trials[0], trials[2]) };
+    println!("| {name} | {counts} | {} | {} | {} | {} | {} |", time(0), time(1), time(2), ratio(1), ratio(2));
+}
+
+/// The port's search on a set without empty passes.
+fn port_search(c: &Case) {
+    let (s, rec) = (&c.set, c.receiver);
+    let (mut table, mut out) = (vec![0.0; port::TABLE], [0.0; 3]);
+    let refusal = unsafe {
+        port::wisvalom_search_starts(
+            s.counts.as_ptr(), s.counts.len(), s.times.as_ptr(), s.times.len(), s.freqs.as_ptr(), s.freqs.len(), s.centers.as_ptr(),
+            s.centers.len(), rec[0], rec[1], rec[2], 7e6, c.i, table.as_mut_ptr(), table.len(), out.as_mut_ptr(),
+        )
+    };
+    assert!(refusal == 0);
+    black_box(out);
+}
+
+/// A set of parameters that a trial of the second refinement is timed on.
+fn tried(c: &Case) -> Vec<f64> {
+    let n = 4 + 4 * c.set.counts.len();
+    [7e6, c.i, 1.0, 2.0].into_iter().chain((4..n).map(|k| [3.0, 100.0, 0.01, 1e-4][k % 4])).collect()
+}
+
+/// One trial of the port's second refinement, with the table and the step that follow it.
+fn port_trial(c: &Case, set: &[f64]) {
+    let (s, rec) = (&c.set, c.receiver);
+    let (mut params, mut scratch) = ([0.0; port::PARAMS], vec![0.0; port::CELLS]);
+    params[..set.len()].copy_from_slice(set);
+    let (mut kept, mut damping, mut best, mut ended) = (params, 1e-3, f64::MAX, 0);
+    let refusal = unsafe {
+        port::wisvalom_trial(
+            true, s.counts.as_ptr(), s.counts.len(), s.times.as_ptr(), s.times.len(), s.freqs.as_ptr(), s.freqs.len(), s.centers[0], rec[0],
+            rec[1], rec[2], params.as_mut_ptr(), kept.as_mut_ptr(), &mut damping, &mut best, &mut ended, scratch.as_mut_ptr(), scratch.len(),
+        )
+    };
+    assert!(refusal == 0 && (ended == 0 || ended == 5));
+    black_box(params);
+}
+
+/// A whole fit of the port; its number of trials.
+fn port_fit(c: &Case) -> usize {
+    let (s, rec) = (&c.set, c.receiver);
+    let room = port::fit_scratch(s.times.len(), s.counts.len());
+    let (mut biases, mut log, mut scratch) = ([[0.0; 16]; 4], [0.0; 150], vec![0.0; room]);
+    let (mut number, mut epoch, mut nanos, mut trials) = ([0.0; 5], 0, 0, 0);
+    let at = number.as_mut_ptr();
+    let b = biases.as_mut_ptr() as *mut f64;
+    let refusal = unsafe {
+        port::wisvalom_fit_orbit_doppler(
+            s.counts.as_ptr(), s.counts.len(), s.times.as_ptr(), s.times.len(), s.freqs.as_ptr(), s.freqs.len(), s.centers.as_ptr(),
+            s.centers.len(), rec[0], rec[1], rec[2], c.a, c.i, b, 16, b.add(16), 16, b.add(32), 16, b.add(48), 16, log.as_mut_ptr(), 150,
+            scratch.as_mut_ptr(), scratch.len(), at, at.add(1), at.add(2), at.add(3), &mut epoch, &mut nanos, &mut trials, at.add(4),
+        )
+    };
+    assert!(refusal == 0);
+    black_box(number);
+    trials
+}
+
+/// The same three of an original, on passes with chrono's moments, made before the clock starts.
+macro_rules! original {
+    ($copy:ident) => {
+        pub mod $copy {
+            use super::*;
+            use ::$copy::{input, judge, orbit_solver as solver};
+
+            pub use judge::passes;
+
+            pub fn search(c: &Case, all: &[solver::RawPass]) {
+                let start = vec![7e6, c.i, 0.0, 0.0, 0.0, 0.0, 0.0, 0.0];
+                black_box(solver::search_block(black_box(all), c.receiver, start, all[0].points[0].time, all[0].center_freq));
+            }
+
+            pub fn trial(c: &Case, all: &[solver::RawPass], set: &[f64]) {
+                let (epoch, centre, set) = (all[0].points[0].time, all[0].center_freq, set.to_vec());
+                let went = solver::second_block(black_box(all), c.receiver, epoch, centre, set.clone(), 1e-3, f64::MAX, set, 1);
+                assert!(went.is_ok());
+                black_box(went.unwrap().0);
+            }
+
+            pub fn fit(c: &Case, all: &[solver::RawPass]) -> usize {
+                input::trials();
+                assert!(black_box(solver::fit_orbit_doppler(black_box(all), c.receiver, c.a, c.i)).is_ok());
+                input::trials()
+            }
+        }
+    };
+}
+
+mod originals {
+    use super::{Case, black_box};
+    original!(patched);
+    original!(published);
+}
+
+/// What the patched original recorded goes between its runs, so that it does not pile up.
+fn forgotten<T>(v: T) -> T {
+    drop(patched::hooks::take());
+    v
 }
 
 fn wholes(rounds: usize) {
-    use published::{judge, orbit_solver as solver};
-    println!("| what | port (ms) | published (ms) | port / published |");
-    println!("|---|---|---|---|");
+    use originals::{patched, published};
+    println!("| what | trials: port and patched, published | port (ms) | patched (ms) | published (ms) | port / patched | port / published |");
+    println!("|---|---|---|---|---|---|---|");
     for (passes, samples) in [(2, 200), (2, 1000)] {
-        let c = common::simulator::realistic(1, passes, samples);
-        let (s, rec) = (&c.set, c.receiver);
-        let all = judge::passes(s);
-        let (epoch, center) = (all[0].points[0].time, all[0].center_freq);
+        let c = &common::simulator::realistic(1, passes, samples);
+        let (a, b) = (&patched::passes(&c.set), &published::passes(&c.set));
         whole(&format!("search, {passes} passes, {samples} samples"), rounds, [
-            Box::new(|| {
-                let (mut table, mut out) = (vec![0.0; port::TABLE], [0.0; 3]);
-                let refusal = unsafe {
-                    port::wisvalom_search_starts(
-                        s.counts.as_ptr(), s.counts.len(), s.times.as_ptr(), s.times.len(), s.freqs.as_ptr(), s.freqs.len(),
-                        s.centers.as_ptr(), s.centers.len(), rec[0], rec[1], rec[2], 7e6, c.i, table.as_mut_ptr(), table.len(), out.as_mut_ptr(),
-                    )
-                };
-                assert!(refusal == 0);
-                black_box(out);
-            }),
-            Box::new(|| {
-                let start = vec![7e6, c.i, 0.0, 0.0, 0.0, 0.0, 0.0, 0.0];
-                black_box(solver::search_block(black_box(&all), rec, start, epoch, center));
-            }),
+            Box::new(|| (port_search(c), 0).1),
+            Box::new(|| forgotten((patched::search(c, a), 0)).1),
+            Box::new(|| (published::search(c, b), 0).1),
         ]);
     }
-    for (passes, samples) in [(2, 200), (8, 800), (16, 1600)] {
-        let c = common::simulator::realistic(1, passes, samples);
-        let (s, rec, n) = (&c.set, c.receiver, 4 + 4 * passes);
-        let all = judge::passes(s);
-        let (epoch, center) = (all[0].points[0].time, all[0].center_freq);
-        let set: Vec<f64> = [7e6, c.i, 1.0, 2.0].into_iter().chain((4..n).map(|k| [3.0, 100.0, 0.01, 1e-4][k % 4])).collect();
+    for (passes, samples) in [(2, 200), (8, 800), (16, 1600), (16, 4096)] {
+        let c = &common::simulator::realistic(1, passes, samples);
+        let (a, b) = (&patched::passes(&c.set), &published::passes(&c.set));
+        let set = &tried(c);
         whole(&format!("trial with its step, {passes} passes, {samples} samples"), rounds * 3, [
-            Box::new(|| {
-                let (mut params, mut scratch) = ([0.0; port::PARAMS], vec![0.0; port::CELLS]);
-                params[..n].copy_from_slice(&set);
-                let (mut kept, mut damping, mut best, mut ended) = (params, 1e-3, f64::MAX, 0);
-                let refusal = unsafe {
-                    port::wisvalom_trial(
-                        true, s.counts.as_ptr(), s.counts.len(), s.times.as_ptr(), s.times.len(), s.freqs.as_ptr(), s.freqs.len(), center,
-                        rec[0], rec[1], rec[2], params.as_mut_ptr(), kept.as_mut_ptr(), &mut damping, &mut best, &mut ended,
-                        scratch.as_mut_ptr(), scratch.len(),
-                    )
-                };
-                assert!(refusal == 0 && (ended == 0 || ended == 5));
-                black_box(params);
-            }),
-            Box::new(|| {
-                let went = solver::second_block(black_box(&all), rec, epoch, center, set.clone(), 1e-3, f64::MAX, set.clone(), 1);
-                assert!(went.is_ok());
-                black_box(went.unwrap().0);
-            }),
+            Box::new(|| (port_trial(c, set), 0).1),
+            Box::new(|| forgotten((patched::trial(c, a, set), 0)).1),
+            Box::new(|| (published::trial(c, b, set), 0).1),
         ]);
     }
-    for (passes, samples) in [(2, 200), (8, 800), (16, 1600)] {
-        let c = common::simulator::realistic(1, passes, samples);
-        let (s, rec) = (&c.set, c.receiver);
-        let all = judge::passes(s);
+    for (passes, samples) in [(2, 200), (2, 1000), (8, 800), (16, 1600), (16, 4096)] {
+        let c = &common::simulator::realistic(1, passes, samples);
+        let (a, b) = (&patched::passes(&c.set), &published::passes(&c.set));
         whole(&format!("fit, {passes} passes, {samples} samples"), rounds, [
-            Box::new(|| {
-                let (mut biases, mut log, mut scratch) = ([[0.0; 16]; 4], [0.0; 150], vec![0.0; port::fit_scratch(samples, passes)]);
-                let (mut number, mut epoch, mut nanos, mut trials) = ([0.0; 5], 0, 0, 0);
-                let at = number.as_mut_ptr();
-                let b = biases.as_mut_ptr() as *mut f64;
-                let refusal = unsafe {
-                    port::wisvalom_fit_orbit_doppler(
-                        s.counts.as_ptr(), s.counts.len(), s.times.as_ptr(), s.times.len(), s.freqs.as_ptr(), s.freqs.len(),
-                        s.centers.as_ptr(), s.centers.len(), rec[0], rec[1], rec[2], c.a, c.i, b, 16, b.add(16), 16, b.add(32), 16, b.add(48), 16,
-                        log.as_mut_ptr(), 150, scratch.as_mut_ptr(), scratch.len(), at, at.add(1), at.add(2), at.add(3), &mut epoch, &mut nanos,
-                        &mut trials, at.add(4),
-                    )
-                };
-                black_box((refusal, number));
-            }),
-            Box::new(|| {
-                black_box(solver::fit_orbit_doppler(black_box(&all), rec, c.a, c.i).is_ok());
-            }),
+            Box::new(|| port_fit(c)),
+            Box::new(|| forgotten(patched::fit(c, a))),
+            Box::new(|| published::fit(c, b)),
         ]);
+    }
+}
+
+/// How the port's time grows: a search, on two passes; a trial with its step, by samples and passes.
+fn growth(rounds: usize) {
+    let median = |run: &dyn Fn()| {
+        let times = sorted((0..rounds).map(|_| {
+            let began = now();
+            run();
+            now() - began
+        }));
+        format!("{:.1}", part(&times, 0.5) * 1e3)
+    };
+    let passes = [2, 4, 8, 16];
+    println!("| samples | search, 2 passes (ms) | {} |", passes.map(|p| format!("trial, {p} passes (ms)")).join(" | "));
+    println!("|---|---|{}", "---|".repeat(passes.len()));
+    for samples in [256, 512, 1024, 2048, 4096] {
+        let c = common::simulator::realistic(1, 2, samples);
+        let search = median(&|| port_search(&c));
+        let trials = passes.map(|p| {
+            let c = common::simulator::realistic(1, p, samples);
+            let set = tried(&c);
+            median(&|| port_trial(&c, &set))
+        });
+        println!("| {samples} | {search} | {} |", trials.join(" | "));
     }
 }
 
@@ -211,8 +287,10 @@ struct Sample {
 }
 
 fn main() {
-    if std::env::args().nth(1).is_some_and(|w| w == "whole") {
-        return wholes(std::env::args().nth(2).map_or(3, |w| w.parse().expect("ROUNDS is a number")));
+    for (word, run) in [("whole", wholes as fn(usize)), ("growth", growth)] {
+        if std::env::args().nth(1).is_some_and(|w| w == word) {
+            return run(std::env::args().nth(2).map_or(3, |w| w.parse().expect("ROUNDS is a number")));
+        }
     }
     let rounds: usize = std::env::args().nth(1).map_or(31, |w| w.parse().expect("ROUNDS is a number"));
     let mut r = Random::new(1);
