@@ -1,18 +1,11 @@
 #!/usr/bin/env python3
-"""Writes the list of exact answers that the program `replay_float` is run on.
+"""Writes exact answers of the functions of `float`, as lines of answers (README.md).
 
-    oracle/float_vectors.py > crates/replay_float/stdin
-
-A line is a letter, two arguments and the answer, 16 hexadecimal digits each; a number is its bits, and every NaN of
-an answer is written 7ff8000000000000. A function of one argument has 0 as the second.
+`oracle/store` puts them into the list that the program `replay` is run on.
 
 Every answer follows document 01's 'Arithmetic the platform leaves open', with one rounding per operation: Python's
 +, -, * and / on floats, its remainder `fmod`, which is exact, and its division of whole numbers, which gives the
 nearest float. Nothing comes from the platform's sine, logarithm, power or rounding.
-
-    a abs   f floor   r round   g signum   d degrees   t radians   s sine   c cosine   l logarithm
-    u cast to u64   i cast to i64, as a float   p power (the second argument is a whole number)
-    w wrapping multiply of u64   X max   N min   E rem_euclid
 
 The arguments are zeros, infinities and NaNs of either sign, the ends of the subnormal and of the normal numbers,
 halves, whole numbers and the ends of the integers with their neighbours, multiples of the quarter turn with theirs,
@@ -143,26 +136,25 @@ def power(x, n):
 
 
 ONE = {
-    "a": absolute,
-    "f": floor,
-    "r": rounded,
-    "g": signum,
-    "d": lambda x: x * 57.29577951308232,
-    "t": lambda x: x * 0.017453292519943295,
-    "s": lambda x: sine_and_cosine(x)[0],
-    "c": lambda x: sine_and_cosine(x)[1],
-    "l": logarithm,
-    "i": lambda x: float(cast(x, -(2**63), 2**63 - 1)),
+    "abs": absolute,
+    "floor": floor,
+    "round": rounded,
+    "signum": signum,
+    "to_degrees": lambda x: x * 57.29577951308232,
+    "to_radians": lambda x: x * 0.017453292519943295,
+    "sin": lambda x: sine_and_cosine(x)[0],
+    "cos": lambda x: sine_and_cosine(x)[1],
+    "ln": logarithm,
 }
 TWO = {
-    "X": lambda x, y: y if x != x or x < y else x,
-    "N": lambda x, y: y if x != x or y < x else x,
-    "E": rem_euclid,
+    "max": lambda x, y: y if x != x or x < y else x,
+    "min": lambda x, y: y if x != x or y < x else x,
+    "rem_euclid": rem_euclid,
 }
 
 
-def line(letter, a, b, answer):
-    print(f"{letter} {a:016x} {b:016x} {answer:016x}")
+def line(kind, fields, answer):
+    print(kind, *["%016x" % (n % 2**64) for n in fields], "=", "%016x" % (answer % 2**64))
 
 
 def near(x):
@@ -183,33 +175,35 @@ def main():
     drawn = [draw.getrandbits(64) for _ in range(60)]
     middling = [pattern(draw.uniform(-10000.0, 10000.0)) for _ in range(40)]
     small = [pattern(draw.uniform(-7.0, 7.0)) for _ in range(40)]
-    for letter, function in ONE.items():
+    for kind, function in ONE.items():
         arguments = ends + drawn + small
-        if letter in "frigdt":
+        if kind in ("floor", "round", "signum", "to_degrees", "to_radians"):
             arguments = arguments + wholes + middling
-        if letter in "sc":
+        if kind in ("sin", "cos"):
             arguments = arguments + turns + middling
-        if letter == "l":
+        if kind == "ln":
             arguments = arguments + roots + [n % 2**63 for n in drawn] + [draw.getrandbits(52) for _ in range(20)]
         for a in arguments:
-            line(letter, a, 0, pattern(function(number(a))))
+            line(kind, [a], pattern(function(number(a))))
+    for a in ends + drawn + small + wholes + middling:
+        line("to_i64", [a], cast(number(a), -(2**63), 2**63 - 1))
     for a in ends + wholes + drawn + middling:
-        line("u", a, 0, cast(number(a), 0, 2**64 - 1))
-    for letter, function in TWO.items():
+        line("to_u64", [a], cast(number(a), 0, 2**64 - 1))
+    for kind, function in TWO.items():
         pairs = [(a, b) for a in ends for b in ends[:1] + ends[6:11] + ends[18:]]
         pairs += [(draw.choice(small), draw.choice(small)) for _ in range(30)] + [(draw.choice(drawn), draw.choice(drawn)) for _ in range(30)]
         pairs += [(a, pattern(d)) for a in middling for d in (FULL, 360.0)]
-        if letter == "E":
+        if kind == "rem_euclid":
             pairs += [(pattern(x), pattern(d)) for x in (-1e-20, -360.0, -720.0, -0.0, 360.0, 1e300, -1e300) for d in (FULL, 360.0, -360.0)]
         for a, b in pairs:
-            line(letter, a, b, pattern(function(number(a), number(b))))
+            line(kind, [a, b], pattern(function(number(a), number(b))))
     for base in (2.0, 3.0, 5.0, 6.0, 7.0, -0.5, 1e10, 0.0, -0.0, INFINITY, NAN):
         for n in (0, 1, 2, 3, 4, 21, 25, 36, 63):
-            line("p", pattern(base), n, pattern(power(base, n)))
+            line("power", [pattern(base), n], pattern(power(base, n)))
     words = [0, 1, 2**32 - 1, 2**32, 2**63, 2**64 - 1, 6364136223846793005] + [draw.getrandbits(64) for _ in range(20)]
     for _ in range(60):
         a, b = draw.choice(words), draw.choice(words)
-        line("w", a, b, a * b % 2**64)
+        line("wrapping_mul", [a, b], a * b)
 
 
 main()

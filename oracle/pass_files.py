@@ -1,14 +1,13 @@
 #!/usr/bin/env python3
-"""Makes the list of pass files that replay_passes replays: good, odd and damaged files with their answers.
+"""Writes pass files with their answers, as lines of answers (README.md) of the kind pass_rule: good, odd and damaged files.
 
 The answers are worked out here from document 01's words and RFC 3339, with Python's exact decimal reading and its calendar; none of the
-port's code is used. Usage: pass_files.py > crates/replay_passes/stdin
+port's code is used. `oracle/store` puts them into the list that the program `replay` is run on.
 """
 import calendar
 import datetime
 import re
 import struct
-import sys
 
 BLANKS = bytes([9, 10, 11, 12, 13, 32])
 TIME = re.compile(rb"(\d{4})-(\d\d)-(\d\d)[Tt](\d\d):(\d\d):(\d\d)(?:\.(\d+))?(?:([Zz])|([+-])(\d\d):(\d\d))\Z", re.A)
@@ -121,13 +120,12 @@ def bits(v):
 
 
 def entry(data, places=4096, listed=None):
+    """A file read into arrays of so many places; of its samples the answer lists the first so many."""
     r = read(data, places)
     samples = r[6] if listed is None else r[6][:listed]
-    head = (len(data), places, r[0], r[1], r[2], r[3], bits(r[4]), r[5], len(samples))
-    out = " ".join("%016x" % n for n in head).encode() + b"\n" + data
-    for t, v in samples:
-        out += b"%016x %016x\n" % (t + 4 * 10**18, bits(v))
-    return out
+    asked = [places, len(data)] + [int.from_bytes(data[k:k + 8].ljust(8, b"\0"), "big") for k in range(0, len(data), 8)]
+    answer = [r[0], r[1], r[2], r[3], bits(r[4]), r[5], len(samples)] + [t % 2**64 for t, v in samples] + [len(samples)] + [bits(v) for t, v in samples]
+    print("pass_rule", *["%016x" % n for n in asked], "=", *["%016x" % n for n in answer])
 
 
 GOOD = b"2026-06-12T00:00:00Z,150800000.5"
@@ -179,17 +177,12 @@ def files():
 
 
 def main():
-    out = sys.stdout.buffer
-    n = 0
     for data in files():
-        out.write(entry(data))
-        n += 1
+        entry(data)
     line = b"1970-01-01T00:00:00Z,1\n"
-    for data, places, listed in ((line * 4096, 4096, 2), (line * 4097, 4096, 0), (line * 4097 + b"\x80", 4096, 0), (line * 5, 5, 5), (line * 5, 4, 0), (b"", 0, 0), (line, 0, 0),
+    for data, places, listed in ((line * 4096, 4096, 2), (line * 4097 + b"\x80", 4096, 0), (line * 5, 5, 5), (line * 5, 4, 0), (b"", 0, 0), (line, 0, 0),
                                  (line * 2 + b"2057-01-01T00:00:00Z,1", 1, 0)):
-        out.write(entry(data, places, listed))
-        n += 1
-    sys.stderr.write("%d agree, 0 differ\n" % n)
+        entry(data, places, listed)
 
 
 main()

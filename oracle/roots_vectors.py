@@ -1,10 +1,7 @@
 #!/usr/bin/env python3
-"""Writes the list of exact answers that the program `replay_roots` is run on.
+"""Writes exact answers of the square root and the cube root, as lines of answers (README.md) of the kinds sqrt and cbrt.
 
-    oracle/roots_vectors.py > crates/replay_roots/stdin
-
-A line is a letter, `s` for the square root and `c` for the cube root, the bits of the argument and the bits of
-the answer, 16 hexadecimal digits each. Every NaN of an answer is written 7ff8000000000000.
+`oracle/store` puts them into the list that the program `replay` is run on.
 
 Every answer is worked out with whole numbers alone, and not by the definition's way: the patterns of the finite
 numbers from +0 up stand in the order of their values, so bisection over the patterns finds the last one whose power
@@ -132,9 +129,9 @@ def arguments(power):
 
 
 def main():
-    for letter, power, answer in (("s", 2, square_root), ("c", 3, cube_root)):
+    for kind, power, answer in (("sqrt", 2, square_root), ("cbrt", 3, cube_root)):
         for bits in arguments(power):
-            print("%s %016x %016x" % (letter, bits, answer(bits)))
+            print("%s %016x = %016x" % (kind, bits, answer(bits)))
 
 
 main()

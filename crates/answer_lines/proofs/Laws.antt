@@ -14,7 +14,7 @@ use mir.Syntax.{w64}
 use mir.Val.{SFits, toZ, ofZ}
 use mir.ValLaws.{toZ-ofZ, ofZ-toZ}
 use borrow.Author.Tests.{eq-eqb, ne-eqb, eqb-true, eqb-false, lt-ltb, le-ltb}
-use Rattle.answer_lines.specs.Lines.{placeOf, beginsWith, askedOf, answerOf, fieldsFrom, afterList, fieldAt, floatAt, countAt, signedAt, every, sameList, Filled, ReadsSet}
+use Rattle.answer_lines.specs.Lines.{firstPlace, beginsWith, askedFields, answerFields, fieldsFrom, afterList, fieldAt, floatField, countField, signedField, every, sameList, FilledBy, ReadsSet}
 
 here : {A : Type 0} (l : List A) (i : ℕ) (d : A) → i < length l → drop i l ≡ getD l i d ∷ drop (i + 1) l
 here l i d h = let e : suc i ≡ i + 1 = omega arith in drop-cons l i d h ∙ ap (λ (k : ℕ). getD l i d ∷ drop k l) e
@@ -22,17 +22,17 @@ here l i d h = let e : suc i ≡ i + 1 = omega arith in drop-cons l i d h ∙ ap
 -- ---- the first place of a byte
 
 module _ (b : ℕ) (l : List ℕ) (i : ℕ) where
-  pub place-here : i < length l → getD l i 0 ≡ b → placeOf b (drop i l) ≡ 0
-  unfolding placeOf
-  place-here h e = ap (placeOf b) (here l i 0 h) ∙ simp (eq-eqb (getD l i 0) b e)
+  pub place-here : i < length l → getD l i 0 ≡ b → firstPlace b (drop i l) ≡ 0
+  unfolding firstPlace
+  place-here h e = ap (firstPlace b) (here l i 0 h) ∙ simp (eq-eqb (getD l i 0) b e)
 
-  pub place-next : i < length l → (getD l i 0 ≡ b → ⊥) → placeOf b (drop i l) ≡ suc (placeOf b (drop (i + 1) l))
-  unfolding placeOf
-  place-next h e = ap (placeOf b) (here l i 0 h) ∙ simp (ne-eqb (getD l i 0) b e)
+  pub place-next : i < length l → (getD l i 0 ≡ b → ⊥) → firstPlace b (drop i l) ≡ suc (firstPlace b (drop (i + 1) l))
+  unfolding firstPlace
+  place-next h e = ap (firstPlace b) (here l i 0 h) ∙ simp (ne-eqb (getD l i 0) b e)
 
-  pub place-end : length l ≤ i → placeOf b (drop i l) ≡ 0
-  unfolding placeOf
-  place-end h = ap (placeOf b) (drop-of-length-le l h)
+  pub place-end : length l ≤ i → firstPlace b (drop i l) ≡ 0
+  unfolding firstPlace
+  place-end h = ap (firstPlace b) (drop-of-length-le l h)
 
 -- ---- a name at the beginning
 
@@ -97,16 +97,16 @@ module _ (l : List ℕ) (a r : ℕ) (h : a ≤ length l) (g : r ≤ length (take
   pub counted : a + r ≤ length l
   counted = omega (arith, h, g, ap length (rest l a), length-drop a l)
 
-pub asked-is : (line : List ℕ) (e s : ℕ) → e ≡ placeOf 61 line → s ≡ placeOf 32 (take e line) → take (length (take e line) - s) (drop s (take e line)) ≡ askedOf line
-unfolding askedOf
-asked-is line e s p q = rest (take e line) s ∙ ap (λ (k : ℕ). drop k (take e line)) q ∙ ap (λ (k : ℕ). drop (placeOf 32 (take k line)) (take k line)) p
+pub asked-is : (line : List ℕ) (e s : ℕ) → e ≡ firstPlace 61 line → s ≡ firstPlace 32 (take e line) → take (length (take e line) - s) (drop s (take e line)) ≡ askedFields line
+unfolding askedFields
+asked-is line e s p q = rest (take e line) s ∙ ap (λ (k : ℕ). drop k (take e line)) q ∙ ap (λ (k : ℕ). drop (firstPlace 32 (take k line)) (take k line)) p
 
-pub answer-is : (line : List ℕ) (e : ℕ) → e ≡ placeOf 61 line → take (length line - (e + 1)) (drop (e + 1) line) ≡ answerOf line
-unfolding answerOf
+pub answer-is : (line : List ℕ) (e : ℕ) → e ≡ firstPlace 61 line → take (length line - (e + 1)) (drop (e + 1) line) ≡ answerFields line
+unfolding answerFields
 answer-is line e p = rest line (e + 1) ∙ ap (λ (k : ℕ). drop (k + 1) line) p
 
-pub no-answer : (line : List ℕ) (e : ℕ) → e ≡ placeOf 61 line → e ≡ length line → take (length line - e) (drop e line) ≡ answerOf line
-unfolding answerOf
+pub no-answer : (line : List ℕ) (e : ℕ) → e ≡ firstPlace 61 line → e ≡ length line → take (length line - e) (drop e line) ≡ answerFields line
+unfolding answerFields
 no-answer line e p q =
     let f : length line ≤ e + 1 = omega (arith, q) in
     rest line e ∙ drop-of-length-le line (le-of-eq (sym q)) ∙ sym (drop-of-length-le line f) ∙ ap (λ (k : ℕ). drop (k + 1) line) p
@@ -158,7 +158,7 @@ module _ {A : Type 0} (f : ℕ → A) (none : A) where
           go true q = subst (λ (k : ℕ). getD (set l i v) k none ≡ f k) (sym (eqb-true j i q)) (getD-set-same l i v none inside ∙ e)
           go false q = getD-set-other l i j v none (eqb-false j i q) ∙ r .at j (split j i h (eqb-false j i q))
 
-  pub filling-all : {before l : List A} {i : ℕ} → Filling f none before l i → length before ≤ i → Filled f none l
+  pub filling-all : {before l : List A} {i : ℕ} → Filling f none before l i → length before ≤ i → FilledBy f none l
   filling-all {before} {l} {i} r h = record { at = λ j g. r .at j (omega (arith, g, h, r .long)) }
 
 -- ---- a number from its two's complement
@@ -192,15 +192,15 @@ positive u h = ofZ-toZ w64 u (record { fits = omega (arith, h) })
 
 pub set-read : (x : List ℕ) {m t f a b d e counts : List ℕ} {centers freqs : List Float} {times : List ℤ} {n p q s : ℕ} → m ≡ afterList x → t ≡ afterList m → f ≡ afterList t
     → a ≡ fieldsFrom 1 x → b ≡ fieldsFrom 1 m → d ≡ fieldsFrom 1 t → e ≡ fieldsFrom 1 f
-    → Filled (countAt a) 0 counts → Filled (floatAt b) nan centers → Filled (signedAt d) (pos 0) times → Filled (floatAt e) nan freqs
+    → FilledBy (countField a) 0 counts → FilledBy (floatField b) nan centers → FilledBy (signedField d) (pos 0) times → FilledBy (floatField e) nan freqs
     → n ≡ fieldAt x 0 → p ≡ fieldAt m 0 → q ≡ fieldAt t 0 → s ≡ fieldAt f 0
     → ReadsSet x counts centers times freqs (record { counts = n; centers = p; times = q; freqs = s })
 set-read x {counts = counts} {centers = centers} {freqs = freqs} {times = times} em et ef ea eb ed ee fc fm ft ff en ep eq es =
     let t′ = et ∙ ap afterList em in
     record {
       sizes = rw (en, ep, eq, es, ef, et, em);
-      counted = subst (λ l. Filled (countAt l) 0 counts) ea fc;
-      centred = subst (λ l. Filled (floatAt l) nan centers) (eb ∙ ap (fieldsFrom 1) em) fm;
-      timed = subst (λ l. Filled (signedAt l) (pos 0) times) (ed ∙ ap (fieldsFrom 1) t′) ft;
-      heard = subst (λ l. Filled (floatAt l) nan freqs) (ee ∙ ap (fieldsFrom 1) (ef ∙ ap afterList t′)) ff;
+      counted = subst (λ l. FilledBy (countField l) 0 counts) ea fc;
+      centred = subst (λ l. FilledBy (floatField l) nan centers) (eb ∙ ap (fieldsFrom 1) em) fm;
+      timed = subst (λ l. FilledBy (signedField l) (pos 0) times) (ed ∙ ap (fieldsFrom 1) t′) ft;
+      heard = subst (λ l. FilledBy (floatField l) nan freqs) (ee ∙ ap (fieldsFrom 1) (ef ∙ ap afterList t′)) ff;
     }

@@ -1,2 +1,4 @@
 -- What the proofs of the functions share.
+pub mod Digits
+pub mod Meaning
 pub mod Laws

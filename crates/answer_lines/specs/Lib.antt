@@ -1,2 +1,3 @@
 -- The words of the crate's contracts.
+pub mod Word
 pub mod Lines

@@ -9,13 +9,13 @@ use lib.IntN.{ℤ, pos}
 use lib.Ieee.{Float, nan, binary64, ofBits, toBits}
 use mir.Syntax.{w64}
 use mir.Val.{ofZ, toZ}
-use Rattle.replay.specs.Word.{wordAt}
+use Rattle.answer_lines.specs.Word.{hexWordAt}
 use Rattle.answer_lines.specs.declared.SetSizes.{SetSizes}
 
 -- how many bytes stand before the first b: all, where there is none
-unfoldable pub placeOf : ℕ → List ℕ → ℕ
-placeOf b [] = 0
-placeOf b (c ∷ l) = cond (eqb c b) 0 (suc (placeOf b l))
+unfoldable pub firstPlace : ℕ → List ℕ → ℕ
+firstPlace b [] = 0
+firstPlace b (c ∷ l) = cond (eqb c b) 0 (suc (firstPlace b l))
 
 -- the name stands at the line's beginning
 unfoldable pub beginsWith : List ℕ → List ℕ → Bool
@@ -24,12 +24,12 @@ beginsWith (c ∷ name) [] = false
 beginsWith (c ∷ name) (b ∷ line) = cond (eqb b c) (beginsWith name line) false
 
 -- the fields that are asked: from the first blank up to the `=`
-unfoldable pub askedOf : List ℕ → List ℕ
-askedOf line = let before = take (placeOf 61 line) line in drop (placeOf 32 before) before
+unfoldable pub askedFields : List ℕ → List ℕ
+askedFields line = let before = take (firstPlace 61 line) line in drop (firstPlace 32 before) before
 
 -- the fields of the answer: what stands after the `=`
-unfoldable pub answerOf : List ℕ → List ℕ
-answerOf line = drop (placeOf 61 line + 1) line
+unfoldable pub answerFields : List ℕ → List ℕ
+answerFields line = drop (firstPlace 61 line + 1) line
 
 -- the fields from field k on
 unfoldable pub fieldsFrom : ℕ → List ℕ → List ℕ
@@ -37,26 +37,26 @@ fieldsFrom k fields = drop (17 * k) fields
 
 -- field k, counted from 0
 unfoldable pub fieldAt : List ℕ → ℕ → ℕ
-fieldAt fields k = wordAt (fieldsFrom k fields) 1
+fieldAt fields k = hexWordAt (fieldsFrom k fields) 1
 
 -- the fields after the list at the first field: how many, and then each
 unfoldable pub afterList : List ℕ → List ℕ
 afterList fields = fieldsFrom (1 + fieldAt fields 0) fields
 
-unfoldable pub floatAt : List ℕ → ℕ → Float
-floatAt fields k = ofBits binary64 (fieldAt fields k)
+unfoldable pub floatField : List ℕ → ℕ → Float
+floatField fields k = ofBits binary64 (fieldAt fields k)
 
 -- the last 32 bits of field k
-unfoldable pub countAt : List ℕ → ℕ → ℕ
-countAt fields k = fieldAt fields k % 4294967296
+unfoldable pub countField : List ℕ → ℕ → ℕ
+countField fields k = fieldAt fields k % 4294967296
 
 -- the number whose two's complement is field k
-unfoldable pub signedAt : List ℕ → ℕ → ℤ
-signedAt fields k = toZ w64 (fieldAt fields k)
+unfoldable pub signedField : List ℕ → ℕ → ℤ
+signedField fields k = toZ w64 (fieldAt fields k)
 
 -- byte i of bytes that lie eight to a field, the first in the highest digits
-unfoldable pub byteAt : List ℕ → ℕ → ℕ
-byteAt fields i = fieldAt fields (i / 8) / 2 ^ (56 - 8 * (i % 8)) % 256
+unfoldable pub packedByte : List ℕ → ℕ → ℕ
+packedByte fields i = fieldAt fields (i / 8) / 2 ^ (56 - 8 * (i % 8)) % 256
 
 -- every element passes the test, which is given the place too
 unfoldable pub every : {A : Type 0} → (ℕ → A → Bool) → ℕ → List A → Bool
@@ -65,7 +65,7 @@ every test i (x ∷ l) = cond (test i x) (every test (i + 1) l) false
 
 -- the bytes are these
 unfoldable pub byteItems : List ℕ → List ℕ → Bool
-byteItems fields = every (λ i b. eqb b (byteAt fields i)) 0
+byteItems fields = every (λ i b. eqb b (packedByte fields i)) 0
 
 -- the floats are these: any NaN is any other, and zeros keep their sign
 unfoldable pub floatItems : List ℕ → List Float → Bool
@@ -96,23 +96,23 @@ abbrev pub sameFloats : List ℕ → ℕ → List Float → Bool
 sameFloats = sameList floatItems
 
 -- place i of the list has what f says, for each of its places
-pub record Filled {A : Type 0} (f : ℕ → A) (none : A) (l : List A) : Type 0 where
+pub record FilledBy {A : Type 0} (f : ℕ → A) (none : A) (l : List A) : Type 0 where
   pub at : (i : ℕ) → i < length l → getD l i none ≡ f i
 
 -- a pass set: lists of counts, centres, times and frequencies, one after the other, each with its length before it
-abbrev pub centersOf : List ℕ → List ℕ
-centersOf set = afterList set
+abbrev pub centerList : List ℕ → List ℕ
+centerList set = afterList set
 
-abbrev pub timesOf : List ℕ → List ℕ
-timesOf set = afterList (centersOf set)
+abbrev pub timeList : List ℕ → List ℕ
+timeList set = afterList (centerList set)
 
-abbrev pub freqsOf : List ℕ → List ℕ
-freqsOf set = afterList (timesOf set)
+abbrev pub freqList : List ℕ → List ℕ
+freqList set = afterList (timeList set)
 
 -- its lengths are said, and its lists stand from the arrays' first places on
 pub record ReadsSet (set counts : List ℕ) (centers : List Float) (times : List ℤ) (freqs : List Float) (r : SetSizes) : Type 0 where
-  pub sizes : r ≡ record { counts = fieldAt set 0; centers = fieldAt (centersOf set) 0; times = fieldAt (timesOf set) 0; freqs = fieldAt (freqsOf set) 0 }
-  pub counted : Filled (countAt (fieldsFrom 1 set)) 0 counts
-  pub centred : Filled (floatAt (fieldsFrom 1 (centersOf set))) nan centers
-  pub timed : Filled (signedAt (fieldsFrom 1 (timesOf set))) (pos 0) times
-  pub heard : Filled (floatAt (fieldsFrom 1 (freqsOf set))) nan freqs
+  pub sizes : r ≡ record { counts = fieldAt set 0; centers = fieldAt (centerList set) 0; times = fieldAt (timeList set) 0; freqs = fieldAt (freqList set) 0 }
+  pub counted : FilledBy (countField (fieldsFrom 1 set)) 0 counts
+  pub centred : FilledBy (floatField (fieldsFrom 1 (centerList set))) nan centers
+  pub timed : FilledBy (signedField (fieldsFrom 1 (timeList set))) (pos 0) times
+  pub heard : FilledBy (floatField (fieldsFrom 1 (freqList set))) nan freqs

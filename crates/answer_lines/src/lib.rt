@@ -1,5 +1,7 @@
 // Reads lines of stored answers: a word, fields of 16 hexadecimal digits each after a blank, ` =`, fields. What stands past a line's end
 // counts as 0.
+pub mod hex;
+
 ghost use mathlib.Core.Path.{_≡_};
 ghost use Prim.Native.Nat.{_+_, _%_, _≤_};
 ghost use lib.ListN.{length, take, drop};
@@ -7,12 +9,12 @@ ghost use lib.Ieee.{nan};
 ghost use lib.IntN.{pos};
 ghost use mir.Syntax.{w64};
 ghost use mir.Val.{ofZ};
-ghost use Rattle.answer_lines.specs.Lines.{placeOf, beginsWith, askedOf, answerOf, fieldsFrom, afterList, fieldAt, floatAt, countAt, signedAt, byteAt, byteItems, countItems, signedItems, floatItems, sameBytes, sameCounts, sameSigned, sameFloats, Filled, freqsOf, ReadsSet};
+ghost use Rattle.answer_lines.specs.Lines.{firstPlace, beginsWith, askedFields, answerFields, fieldsFrom, afterList, fieldAt, floatField, countField, signedField, packedByte, byteItems, countItems, signedItems, floatItems, sameBytes, sameCounts, sameSigned, sameFloats, FilledBy, freqList, ReadsSet};
 use moment::Moment;
 
 // How many bytes stand before the first `byte`: all, where there is none.
 pub fn find(text: &[u8], byte: u8) -> usize
-    ensures { λ r. ⌜ (r ≡ placeOf byte (now (text .entry))) × (r ≤ length (now (text .entry))) ⌝ }
+    ensures { λ r. ⌜ (r ≡ firstPlace byte (now (text .entry))) × (r ≤ length (now (text .entry))) ⌝ }
 {
     let mut i = 0;
     while i < text.len() {
@@ -28,7 +30,7 @@ pub fn find(text: &[u8], byte: u8) -> usize
 // by proof.
 pub fn line_end(text: &[u8], at: usize) -> usize
     requires { ⌜ at ≤ length (now text) ⌝ }
-    ensures { λ r. ⌜ (r ≡ at + placeOf 10 (drop at (now (text .entry)))) × (r ≤ length (now (text .entry))) ⌝ }
+    ensures { λ r. ⌜ (r ≡ at + firstPlace 10 (drop at (now (text .entry)))) × (r ≤ length (now (text .entry))) ⌝ }
 {
     at + find(&text[at..], b'\n')
 }
@@ -51,7 +53,7 @@ pub fn begins_with(line: &[u8], name: &[u8]) -> bool
 
 // The fields that are asked.
 pub fn asked(line: &[u8]) -> &[u8]
-    ensures { λ r. ⌜ now r ≡ askedOf (now (line .entry)) ⌝ }
+    ensures { λ r. ⌜ now r ≡ askedFields (now (line .entry)) ⌝ }
 {
     let end = find(line, b'=');
     let before = &line[..end];
@@ -61,13 +63,24 @@ pub fn asked(line: &[u8]) -> &[u8]
 
 // The fields of the answer.
 pub fn answer(line: &[u8]) -> &[u8]
-    ensures { λ r. ⌜ now r ≡ answerOf (now (line .entry)) ⌝ }
+    ensures { λ r. ⌜ now r ≡ answerFields (now (line .entry)) ⌝ }
 {
     let end = find(line, b'=');
     if end == line.len() {
         return &line[end..];
     }
     &line[end + 1..]
+}
+
+// What stands after the first n bytes.
+pub fn after(line: &[u8], n: usize) -> &[u8]
+    ensures { λ r. ⌜ now r ≡ drop n (now (line .entry)) ⌝ }
+{
+    let all = line.len();
+    if all < n {
+        return &line[all..];
+    }
+    &line[n..]
 }
 
 // The fields from field k on.
@@ -85,7 +98,7 @@ pub fn from(fields: &[u8], k: usize) -> &[u8]
 pub fn field(fields: &[u8], k: usize) -> u64
     ensures { λ r. ⌜ r ≡ fieldAt (now (fields .entry)) k ⌝ }
 {
-    replay::word(from(fields, k), 1)
+    hex::word(from(fields, k), 1)
 }
 
 // The fields after the list that begins at the first field.
@@ -101,9 +114,9 @@ pub fn after_list(fields: &[u8]) -> &[u8]
 }
 
 pub fn float(fields: &[u8], k: usize) -> f64
-    ensures { λ r. ⌜ r ≡ floatAt (now (fields .entry)) k ⌝ }
+    ensures { λ r. ⌜ r ≡ floatField (now (fields .entry)) k ⌝ }
 {
-    replay::float(field(fields, k))
+    hex::float(field(fields, k))
 }
 
 // The number whose two's complement is field k.
@@ -129,21 +142,21 @@ pub fn moment(fields: &[u8]) -> Moment
 
 // The last 32 bits of field k.
 fn count(fields: &[u8], k: usize) -> u32
-    ensures { λ r. ⌜ r ≡ countAt (now (fields .entry)) k ⌝ }
+    ensures { λ r. ⌜ r ≡ countField (now (fields .entry)) k ⌝ }
 {
     (field(fields, k) % 4294967296) as u32
 }
 
 // Byte i of bytes that lie eight to a field.
 fn byte(fields: &[u8], i: usize) -> u8
-    ensures { λ r. ⌜ r ≡ byteAt (now (fields .entry)) i ⌝ }
+    ensures { λ r. ⌜ r ≡ packedByte (now (fields .entry)) i ⌝ }
 {
     ((field(fields, i / 8) >> (56 - 8 * (i % 8))) % 256) as u8
 }
 
 // As many bytes as out has places.
 pub fn bytes(fields: &[u8], out: &mut [u8])
-    ensures { λ _. ⌜ Filled (byteAt (now (fields .entry))) 0 (now (out .exit)) ⌝ }
+    ensures { λ _. ⌜ FilledBy (packedByte (now (fields .entry))) 0 (now (out .exit)) ⌝ }
 {
     for i in 0usize..out.len() {
         out[i] = byte(fields, i);
@@ -152,7 +165,7 @@ pub fn bytes(fields: &[u8], out: &mut [u8])
 
 // As many floats as out has places.
 pub fn floats(fields: &[u8], out: &mut [f64])
-    ensures { λ _. ⌜ Filled (floatAt (now (fields .entry))) nan (now (out .exit)) ⌝ }
+    ensures { λ _. ⌜ FilledBy (floatField (now (fields .entry))) nan (now (out .exit)) ⌝ }
 {
     for i in 0usize..out.len() {
         out[i] = float(fields, i);
@@ -161,7 +174,7 @@ pub fn floats(fields: &[u8], out: &mut [f64])
 
 // As many counts as out has places.
 pub fn counts(fields: &[u8], out: &mut [u32])
-    ensures { λ _. ⌜ Filled (countAt (now (fields .entry))) 0 (now (out .exit)) ⌝ }
+    ensures { λ _. ⌜ FilledBy (countField (now (fields .entry))) 0 (now (out .exit)) ⌝ }
 {
     for i in 0usize..out.len() {
         out[i] = count(fields, i);
@@ -170,7 +183,7 @@ pub fn counts(fields: &[u8], out: &mut [u32])
 
 // As many times as out has places.
 pub fn times(fields: &[u8], out: &mut [i64])
-    ensures { λ _. ⌜ Filled (signedAt (now (fields .entry))) (pos 0) (now (out .exit)) ⌝ }
+    ensures { λ _. ⌜ FilledBy (signedField (now (fields .entry))) (pos 0) (now (out .exit)) ⌝ }
 {
     for i in 0usize..out.len() {
         out[i] = signed(fields, i);
@@ -212,7 +225,7 @@ pub fn set(
 
 // The fields after it.
 pub fn after_set(fields: &[u8]) -> &[u8]
-    ensures { λ r. ⌜ now r ≡ afterList (freqsOf (now (fields .entry))) ⌝ }
+    ensures { λ r. ⌜ now r ≡ afterList (freqList (now (fields .entry))) ⌝ }
 {
     after_list(after_list(after_list(after_list(fields))))
 }
@@ -271,7 +284,7 @@ pub fn floats_are(fields: &[u8], x: &[f64]) -> bool
     ensures { λ r. ⌜ r ≡ floatItems (now (fields .entry)) (now (x .entry)) ⌝ }
 {
     for i in 0usize..x.len() {
-        if replay::bits(x[i]) != field(fields, i) {
+        if hex::bits(x[i]) != field(fields, i) {
             return false;
         }
     }

@@ -1,3 +1,4 @@
 -- What the proofs of the functions share.
-pub mod Digits
-pub mod Meaning
+pub mod Counting
+pub mod Reporting
+pub mod Sized

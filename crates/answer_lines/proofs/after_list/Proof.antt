@@ -7,26 +7,8 @@ use borrow.Author.Needs.{needs}
 use Rattle.answer_lines.proofs.after_list.Statement.{statement}
 use Rattle.answer_lines.proofs.after_list.Tie as tie
 
-field-requires : tie.Need-field-requires
-field-requires c κs = search needs
-
-sub-result : tie.Need-sub-result
-sub-result c = search needs
-
-part-result-start : tie.Need-part-result-start
-part-result-start c = search needs
-
-part-result-end : tie.Need-part-result-end
-part-result-end c = search needs
-
 returns : tie.Need-returns
 returns c = let b = c .before .before in past-list (b .before .before .args .fields .now) (b .field .result) (b .field .ensures) (c .before .if1 .taken)
-
-add-from : tie.Need-add-from
-add-from c = search needs
-
-from-requires : tie.Need-from-requires
-from-requires c κs = search needs
 
 returns-2 : tie.Need-returns-2
 unfolding afterList
@@ -36,11 +18,11 @@ pub after-list-spec : {M : Type 1} → statement M
 after-list-spec =
     tie.close
     (tie.spec
-    field-requires
-    sub-result
-    part-result-start
-    part-result-end
+    (λ c κs. search needs)
+    (λ c. search needs)
+    (λ c. search needs)
+    (λ c. search needs)
     returns
-    add-from
-    from-requires
+    (λ c. search needs)
+    (λ c κs. search needs)
     returns-2)

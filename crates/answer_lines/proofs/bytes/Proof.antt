@@ -1,41 +1,29 @@
 -- `answer_lines::bytes` meets its contract. Assumes nothing.
 use Prim.Native.Nat.{_-_}
 use lib.ListN.{length}
-use Rattle.answer_lines.specs.Lines.{byteAt}
+use Rattle.answer_lines.specs.Lines.{packedByte}
 use Rattle.answer_lines.proofs.Laws.{Filling, filling-none, filling-more, filling-all}
 use borrow.Author.Needs.{needs}
 use Rattle.answer_lines.proofs.bytes.Statement.{statement}
 use Rattle.answer_lines.proofs.bytes.Tie as tie
 
 abbrev Inv-loop : tie.InvT-loop
-Inv-loop fields out₀ i₀ i-end out i = Filling (byteAt (fields)) 0 out₀ out i
+Inv-loop fields out₀ i₀ i-end out i = Filling (packedByte (fields)) 0 out₀ out i
 
 abbrev μ-loop : tie.MeasureT-loop
 μ-loop fields out₀ i₀ i-end out i = length out₀ - i
 
 loop-holds : tie.Need-loop-holds Inv-loop μ-loop
-loop-holds c = let a = c .before .before .args in filling-none (byteAt (a .fields .now)) 0 (a .out .now)
-
-byte-requires : tie.Need-byte-requires Inv-loop μ-loop
-byte-requires c κs = search needs
-
-slice-write-out : tie.Need-slice-write-out Inv-loop μ-loop
-slice-write-out c = search needs
-
-add-i : tie.Need-add-i Inv-loop μ-loop
-add-i c = search needs
-
-loop-less : tie.Need-loop-less Inv-loop μ-loop
-loop-less c = search needs
+loop-holds c = let a = c .before .before .args in filling-none (packedByte (a .fields .now)) 0 (a .out .now)
 
 loop-again : tie.Need-loop-again Inv-loop μ-loop
-loop-again c = let l = c .before .before in filling-more (byteAt (l .before .before .before .args .fields .now)) 0 (c .byte .result) (l .loop .inv) (c .before .loop-test .taken) (c .byte .ensures)
+loop-again c = let l = c .before .before in filling-more (packedByte (l .before .before .before .args .fields .now)) 0 (c .byte .result) (l .loop .inv) (c .before .loop-test .taken) (c .byte .ensures)
 
 same-length : tie.Need-same-length Inv-loop μ-loop
 same-length c = c .before .loop .inv .long
 
 returns : tie.Need-returns Inv-loop μ-loop
-returns c = filling-all (byteAt (c .before .before .before .before .args .fields .now)) 0 (c .before .loop .inv) (c .loop-test .left)
+returns c = filling-all (packedByte (c .before .before .before .before .args .fields .now)) 0 (c .before .loop .inv) (c .loop-test .left)
 
 pub bytes-spec : {M : Type 1} → statement M
 bytes-spec =
@@ -44,10 +32,10 @@ bytes-spec =
     Inv-loop
     μ-loop
     loop-holds
-    byte-requires
-    slice-write-out
-    add-i
-    loop-less
+    (λ c κs. search needs)
+    (λ c. search needs)
+    (λ c. search needs)
+    (λ c. search needs)
     loop-again
     same-length
     returns)

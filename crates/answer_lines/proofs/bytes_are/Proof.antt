@@ -5,14 +5,14 @@ use native.Mathlib.Omega.{arith}
 use lib.ListN.{length}
 use lib.Dec.{eqb}
 use borrow.Author.Tests.{eq-eqb, ne-eqb}
-use Rattle.answer_lines.specs.Lines.{byteAt, byteItems}
+use Rattle.answer_lines.specs.Lines.{packedByte, byteItems}
 use Rattle.answer_lines.proofs.Laws.{Testing, testing-next, testing-other, testing-end}
 use borrow.Author.Needs.{needs}
 use Rattle.answer_lines.proofs.bytes_are.Statement.{statement}
 use Rattle.answer_lines.proofs.bytes_are.Tie as tie
 
 abbrev Inv-loop : tie.InvT-loop
-Inv-loop fields x i₀ i-end i = Testing (λ k b. eqb b (byteAt (fields) k)) x (byteItems fields x) i
+Inv-loop fields x i₀ i-end i = Testing (λ k b. eqb b (packedByte (fields) k)) x (byteItems fields x) i
 
 abbrev μ-loop : tie.MeasureT-loop
 μ-loop fields x i₀ i-end i = length x - i
@@ -21,26 +21,14 @@ loop-holds : tie.Need-loop-holds Inv-loop μ-loop
 unfolding byteItems
 loop-holds c = record { turns = omega arith; is = refl }
 
-shared-slice-read-if1 : tie.Need-shared-slice-read-if1 Inv-loop μ-loop
-shared-slice-read-if1 c = search needs
-
-byte-requires : tie.Need-byte-requires Inv-loop μ-loop
-byte-requires c κs = search needs
-
 returns : tie.Need-returns Inv-loop μ-loop
-returns c = let l = c .before .before .before .before in testing-other (λ k b. eqb b (byteAt (l .before .before .before .args .fields .now) k)) (l .loop .inv) 0 (omega arith) (ne-eqb _ _ (λ e. c .if1 .taken (e ∙ sym (c .before .byte .ensures))))
-
-add-i : tie.Need-add-i Inv-loop μ-loop
-add-i c = search needs
-
-loop-less : tie.Need-loop-less Inv-loop μ-loop
-loop-less c = search needs
+returns c = let l = c .before .before .before .before in testing-other (λ k b. eqb b (packedByte (l .before .before .before .args .fields .now) k)) (l .loop .inv) 0 (omega arith) (ne-eqb _ _ (λ e. c .if1 .taken (e ∙ sym (c .before .byte .ensures))))
 
 loop-again : tie.Need-loop-again Inv-loop μ-loop
-loop-again c = let l = c .before .before .before .before in testing-next (λ k b. eqb b (byteAt (l .before .before .before .args .fields .now) k)) (l .loop .inv) 0 (omega arith) (eq-eqb _ _ (c .if1 .left ∙ c .before .byte .ensures))
+loop-again c = let l = c .before .before .before .before in testing-next (λ k b. eqb b (packedByte (l .before .before .before .args .fields .now) k)) (l .loop .inv) 0 (omega arith) (eq-eqb _ _ (c .if1 .left ∙ c .before .byte .ensures))
 
 returns-2 : tie.Need-returns-2 Inv-loop μ-loop
-returns-2 c = let l = c .before in testing-end (λ k b. eqb b (byteAt (l .before .before .before .args .fields .now) k)) (l .loop .inv) (c .loop-test .left)
+returns-2 c = let l = c .before in testing-end (λ k b. eqb b (packedByte (l .before .before .before .args .fields .now) k)) (l .loop .inv) (c .loop-test .left)
 
 pub bytes-are-spec : {M : Type 1} → statement M
 bytes-are-spec =
@@ -49,10 +37,10 @@ bytes-are-spec =
     Inv-loop
     μ-loop
     loop-holds
-    shared-slice-read-if1
-    byte-requires
+    (λ c. search needs)
+    (λ c κs. search needs)
     returns
-    add-i
-    loop-less
+    (λ c. search needs)
+    (λ c. search needs)
     loop-again
     returns-2)

@@ -21,26 +21,11 @@ loop-holds : tie.Need-loop-holds Inv-loop μ-loop
 unfolding countItems
 loop-holds c = record { turns = omega arith; is = refl }
 
-mul-if1 : tie.Need-mul-if1 Inv-loop μ-loop
-mul-if1 c = search needs
-
-shared-slice-read-if1 : tie.Need-shared-slice-read-if1 Inv-loop μ-loop
-shared-slice-read-if1 c = search needs
-
 cast-if1 : tie.Need-cast-if1 Inv-loop μ-loop
 cast-if1 c = omega (arith, c .shared-slice-known3 .given (c .before .before .loop .i))
 
-field-requires : tie.Need-field-requires Inv-loop μ-loop
-field-requires c κs = search needs
-
 returns : tie.Need-returns Inv-loop μ-loop
 returns c = let l = c .before .before .before .before in testing-other (λ k n. eqb n (fieldAt (l .before .before .before .args .fields .now) k)) (l .loop .inv) 0 (omega arith) (ne-eqb _ _ (λ e. c .if1 .taken (e ∙ sym (c .before .field .ensures))))
-
-add-i : tie.Need-add-i Inv-loop μ-loop
-add-i c = search needs
-
-loop-less : tie.Need-loop-less Inv-loop μ-loop
-loop-less c = search needs
 
 loop-again : tie.Need-loop-again Inv-loop μ-loop
 loop-again c = let l = c .before .before .before .before in testing-next (λ k n. eqb n (fieldAt (l .before .before .before .args .fields .now) k)) (l .loop .inv) 0 (omega arith) (eq-eqb _ _ (c .if1 .left ∙ c .before .field .ensures))
@@ -55,12 +40,12 @@ counts-are-spec =
     Inv-loop
     μ-loop
     loop-holds
-    mul-if1
-    shared-slice-read-if1
+    (λ c. search needs)
+    (λ c. search needs)
     cast-if1
-    field-requires
+    (λ c κs. search needs)
     returns
-    add-i
-    loop-less
+    (λ c. search needs)
+    (λ c. search needs)
     loop-again
     returns-2)

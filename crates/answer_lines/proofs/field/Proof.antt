@@ -4,15 +4,9 @@ use borrow.Author.Needs.{needs}
 use Rattle.answer_lines.proofs.field.Statement.{statement}
 use Rattle.answer_lines.proofs.field.Tie as tie
 
-from-requires : tie.Need-from-requires
-from-requires c κs = search needs
-
-word-requires : tie.Need-word-requires
-word-requires c κs = search needs
-
 returns : tie.Need-returns
 unfolding fieldAt
 returns c = simp (c .before .from .ensures, c .word .ensures)
 
 pub field-spec : {M : Type 1} → statement M
-field-spec = tie.close (tie.spec from-requires word-requires returns)
+field-spec = tie.close (tie.spec (λ c κs. search needs) (λ c κs. search needs) returns)

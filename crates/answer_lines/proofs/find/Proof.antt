@@ -3,13 +3,13 @@ use mathlib.Core.Path.{_≡_}
 use Prim.Native.Nat.{_+_, _-_, _≤_}
 use native.Mathlib.Omega.{arith}
 use lib.ListN.{length, drop}
-use Rattle.answer_lines.specs.Lines.{placeOf}
+use Rattle.answer_lines.specs.Lines.{firstPlace}
 use Rattle.answer_lines.proofs.Laws.{place-here, place-next, place-end}
 use Rattle.answer_lines.proofs.find.Statement.{statement}
 use Rattle.answer_lines.proofs.find.Tie as tie
 
 abbrev Inv-loop : tie.InvT-loop
-Inv-loop text byte i₀ i = (i ≤ length text) × (i + placeOf byte (drop i text) ≡ placeOf byte text)
+Inv-loop text byte i₀ i = (i ≤ length text) × (i + firstPlace byte (drop i text) ≡ firstPlace byte text)
 
 abbrev μ-loop : tie.MeasureT-loop
 μ-loop text byte i₀ i = length text - i

@@ -12,8 +12,5 @@ returns c = let a = c .before .args in sym (take-all (a .n) (a .x .now) (le-of-l
 slice-aggregate-result : tie.Need-slice-aggregate-result
 slice-aggregate-result c = let a = c .before .before .args in sym (length-take-le (a .n) (a .x .now) (c .before .if1 .left))
 
-returns-2 : tie.Need-returns-2
-returns-2 c = search needs
-
 pub first-floats-spec : {M : Type 1} → statement M
-first-floats-spec = tie.close (tie.spec returns slice-aggregate-result returns-2)
+first-floats-spec = tie.close (tie.spec returns slice-aggregate-result (λ c. search needs))

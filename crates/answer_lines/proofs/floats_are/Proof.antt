@@ -22,26 +22,8 @@ loop-holds : tie.Need-loop-holds Inv-loop μ-loop
 unfolding floatItems
 loop-holds c = record { turns = omega arith; is = refl }
 
-mul-bits : tie.Need-mul-bits Inv-loop μ-loop
-mul-bits c = search needs
-
-shared-slice-read-bits : tie.Need-shared-slice-read-bits Inv-loop μ-loop
-shared-slice-read-bits c = search needs
-
-bits-requires : tie.Need-bits-requires Inv-loop μ-loop
-bits-requires c κs = search needs
-
-field-requires : tie.Need-field-requires Inv-loop μ-loop
-field-requires c κs = search needs
-
 returns : tie.Need-returns Inv-loop μ-loop
 returns c = let l = c .before .before .before .before .before in testing-other (λ k v. eqb (toBits binary64 v) (fieldAt (l .before .before .before .args .fields .now) k)) (l .loop .inv) nan (omega arith) (ne-eqb _ _ (λ e. c .if1 .taken (c .before .before .bits .ensures ∙ e ∙ sym (c .before .field .ensures))))
-
-add-i : tie.Need-add-i Inv-loop μ-loop
-add-i c = search needs
-
-loop-less : tie.Need-loop-less Inv-loop μ-loop
-loop-less c = search needs
 
 loop-again : tie.Need-loop-again Inv-loop μ-loop
 loop-again c = let l = c .before .before .before .before .before in testing-next (λ k v. eqb (toBits binary64 v) (fieldAt (l .before .before .before .args .fields .now) k)) (l .loop .inv) nan (omega arith) (eq-eqb _ _ (sym (c .before .before .bits .ensures) ∙ c .if1 .left ∙ c .before .field .ensures))
@@ -56,12 +38,12 @@ floats-are-spec =
     Inv-loop
     μ-loop
     loop-holds
-    mul-bits
-    shared-slice-read-bits
-    bits-requires
-    field-requires
+    (λ c. search needs)
+    (λ c. search needs)
+    (λ c κs. search needs)
+    (λ c κs. search needs)
     returns
-    add-i
-    loop-less
+    (λ c. search needs)
+    (λ c. search needs)
     loop-again
     returns-2)

@@ -10,9 +10,6 @@ use borrow.Author.Needs.{needs}
 use Rattle.answer_lines.proofs.same_bytes.Statement.{statement}
 use Rattle.answer_lines.proofs.same_bytes.Tie as tie
 
-field-requires : tie.Need-field-requires
-field-requires c κs = search needs
-
 returns : tie.Need-returns
 returns c =
     let f = c .before in
@@ -25,17 +22,11 @@ returns-2 c =
     let a = f .before .before .before .args in
     too-few byteItems (a .fields .now) (a .n) (a .x .now) (sym (f .field .ensures) ∙ c .before .if1 .left) (c .if2 .taken)
 
-from-requires : tie.Need-from-requires
-from-requires c κs = search needs
-
 slice-aggregate-bytes-are : tie.Need-slice-aggregate-bytes-are
 slice-aggregate-bytes-are c =
     let e = c .before .before in
     let a = e .before .before .before .before .before .args in
     sym (length-take-le (a .n) (a .x .now) (e .if2 .left))
-
-bytes-are-requires : tie.Need-bytes-are-requires
-bytes-are-requires c κs = search needs
 
 returns-3 : tie.Need-returns-3
 returns-3 c =
@@ -49,10 +40,10 @@ pub same-bytes-spec : {M : Type 1} → statement M
 same-bytes-spec =
     tie.close
     (tie.spec
-    field-requires
+    (λ c κs. search needs)
     returns
     returns-2
-    from-requires
+    (λ c κs. search needs)
     slice-aggregate-bytes-are
-    bytes-are-requires
+    (λ c κs. search needs)
     returns-3)

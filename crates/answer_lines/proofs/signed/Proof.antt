@@ -6,20 +6,8 @@ use borrow.Author.Needs.{needs}
 use Rattle.answer_lines.proofs.signed.Statement.{statement}
 use Rattle.answer_lines.proofs.signed.Tie as tie
 
-field-requires : tie.Need-field-requires
-field-requires c κs = search needs
-
-cast-result : tie.Need-cast-result
-cast-result c = search needs
-
 returns : tie.Need-returns
 returns c = let f = c .before .field in positive (f .result) (omega (arith, f .ok)) ∙ f .ensures
-
-sub-result : tie.Need-sub-result
-sub-result c = search needs
-
-cast-result-2 : tie.Need-cast-result-2
-cast-result-2 c = search needs
 
 sub-result-2 : tie.Need-sub-result-2
 sub-result-2 c = let f = c .before .field in negative-fits (f .result) (c .if1 .left) (omega (arith, f .ok))
@@ -30,4 +18,4 @@ returns-2 c = let f = c .before .field in negative (f .result) (c .if1 .left) (o
 pub signed-spec : {M : Type 1} → statement M
 signed-spec =
     tie.close
-    (tie.spec field-requires cast-result returns sub-result cast-result-2 sub-result-2 returns-2)
+    (tie.spec (λ c κs. search needs) (λ c. search needs) returns (λ c. search needs) (λ c. search needs) sub-result-2 returns-2)

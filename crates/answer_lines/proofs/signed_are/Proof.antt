@@ -24,23 +24,8 @@ loop-holds : tie.Need-loop-holds Inv-loop μ-loop
 unfolding signedItems
 loop-holds c = record { turns = omega arith; is = refl }
 
-mul-if1 : tie.Need-mul-if1 Inv-loop μ-loop
-mul-if1 c = search needs
-
-shared-slice-copy-out-if1 : tie.Need-shared-slice-copy-out-if1 Inv-loop μ-loop
-shared-slice-copy-out-if1 c = search needs
-
-signed-requires : tie.Need-signed-requires Inv-loop μ-loop
-signed-requires c κs = search needs
-
 returns : tie.Need-returns Inv-loop μ-loop
 returns c = let l = c .before .before .before .before in testing-other (λ k t. eqb (ofZ w64 t) (fieldAt (l .before .before .args .fields .now) k)) (l .loop .inv) (pos 0) (omega arith) (ne-eqb _ _ (λ e. c .if1 .taken (e ∙ sym (c .before .signed .ensures))))
-
-add-i : tie.Need-add-i Inv-loop μ-loop
-add-i c = search needs
-
-loop-less : tie.Need-loop-less Inv-loop μ-loop
-loop-less c = search needs
 
 loop-again : tie.Need-loop-again Inv-loop μ-loop
 loop-again c = let l = c .before .before .before .before in testing-next (λ k t. eqb (ofZ w64 t) (fieldAt (l .before .before .args .fields .now) k)) (l .loop .inv) (pos 0) (omega arith) (eq-eqb _ _ (c .if1 .left ∙ c .before .signed .ensures))
@@ -55,11 +40,11 @@ signed-are-spec =
     Inv-loop
     μ-loop
     loop-holds
-    mul-if1
-    shared-slice-copy-out-if1
-    signed-requires
+    (λ c. search needs)
+    (λ c. search needs)
+    (λ c κs. search needs)
     returns
-    add-i
-    loop-less
+    (λ c. search needs)
+    (λ c. search needs)
     loop-again
     returns-2)
