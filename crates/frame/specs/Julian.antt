@@ -8,7 +8,7 @@ use lib.Ieee.{Float, binary64, ofInt}
 use Rattle.float.specs.Constant.{decimal}
 use Rattle.float.specs.Ops.{_⊕_, _⊖_, _⊗_, _⊘_, floorOf}
 use Rattle.refusal.specs.Numbers as refusal
-use Rattle.refusal.specs.Order.{first, _if_}
+use Rattle.refusal.specs.Order.{first, _if_, unless}
 use Rattle.moment.specs.Origin.{perDay, march1956}
 use Rattle.moment.specs.Time.{secondsOf}
 use Rattle.moment.specs.Range.{taken}
@@ -46,10 +46,5 @@ jdOf d part =
 unfoldable pub jdAt : ℕ → ℕ → Float
 jdAt secs nanos = let s = secs - march1956 in jdOf (dateOf (s / perDay)) (dayFraction (s % perDay) nanos)
 
--- the answer with this refusal number, 0 for none, and this value
-abbrev pub answer : ℕ → Float → JulianDate
-answer zero jd = At jd
-answer (suc n) jd = Refused (suc n)
-
 unfoldable pub datetimeToJdOf : Moment → JulianDate
-datetimeToJdOf m = answer (first ((refusal.moment-range if not (taken m)) ∷ [])) (jdAt (secondsOf (m .seconds)) (m .nanos))
+datetimeToJdOf m = unless Refused (first ((refusal.moment-range if not (taken m)) ∷ [])) (At (jdAt (secondsOf (m .seconds)) (m .nanos)))

@@ -9,7 +9,7 @@ use lib.ListN.{length, drop, replicate}
 use lib.Ieee.{Float}
 use Rattle.float.specs.Ops.{bits}
 use Rattle.loops.specs.Loop.{isSome, orElse}
-use Rattle.refusal.specs.Order.{first, _if_}
+use Rattle.refusal.specs.Order.{first, _if_, unless}
 use Rattle.refusal.specs.Numbers as refusal
 use Rattle.linear.specs.Elimination.{solutionOf}
 use Rattle.linear.specs.declared.Solution.{Solution}
@@ -27,8 +27,7 @@ refusalOf n m v o s =
 
 -- a refusal's answer by its number
 abbrev pub answerOf : ℕ → Solution
-answerOf zero = Found
-answerOf (suc k) = Refused (suc k)
+answerOf k = unless Refused k Found
 
 -- the lent output: the solution in its first n places, unless refused
 abbrev pub outOf : ℕ → Option (List Float) → ℕ → List Float → List Float

@@ -7,7 +7,7 @@ use lib.Dec.{ltb}
 use lib.ListN.{length, drop}
 use lib.Ieee.{Float}
 use Rattle.refusal.specs.Numbers as refusal
-use Rattle.refusal.specs.Order.{first, _if_}
+use Rattle.refusal.specs.Order.{first, _if_, unless}
 use Rattle.monna.specs.Digits.{isBase, monnaOf, inverseOf, distanceOf}
 use Rattle.monna.specs.History.{differencesOf}
 use Rattle.monna.specs.declared.Mapped.{Mapped}
@@ -26,24 +26,14 @@ digitsRefusal p n = first ((refusal.limits if not (isBase p)) ∷ (refusal.limit
 unfoldable pub historyRefusal : ℕ → ℕ → ℕ
 historyRefusal n o = first ((refusal.limits if ltb 64 n) ∷ (refusal.short-memory if ltb o n) ∷ [])
 
--- the answer with this refusal number, 0 for none, and this value
-abbrev pub answer : ℕ → Float → Mapped
-answer zero v = mapped.Value v
-answer (suc k) v = mapped.Refused (suc k)
-
 unfoldable pub monnaMapOf : ℕ → ℕ → Mapped
-monnaMapOf v p = answer (baseRefusal p) (monnaOf v p)
+monnaMapOf v p = unless mapped.Refused (baseRefusal p) (mapped.Value (monnaOf v p))
 
 unfoldable pub pAdicDistanceOf : ℕ → ℕ → ℕ → Mapped
-pAdicDistanceOf a b p = answer (baseRefusal p) (distanceOf a b p)
-
--- the same with a whole number
-abbrev pub wholeAnswer : ℕ → ℕ → Inverse
-wholeAnswer zero v = inverse.Value v
-wholeAnswer (suc k) v = inverse.Refused (suc k)
+pAdicDistanceOf a b p = unless mapped.Refused (baseRefusal p) (mapped.Value (distanceOf a b p))
 
 unfoldable pub inverseMonnaMapOf : Float → ℕ → ℕ → Inverse
-inverseMonnaMapOf x p n = wholeAnswer (digitsRefusal p n) (inverseOf x p n)
+inverseMonnaMapOf x p n = unless inverse.Refused (digitsRefusal p n) (inverse.Value (inverseOf x p n))
 
 -- the lent output: the differences in its first places, unless refused
 abbrev pub outOf : ℕ → List Float → List Float → List Float

@@ -9,7 +9,7 @@ use Rattle.float.specs.Ops.{_⊕_, _⊖_, _⊗_, _⊘_, one}
 use Rattle.float.specs.declared.trig.SinCos.{SinCos}
 use Rattle.roots.specs.Root.{sqrtOf}
 use Rattle.refusal.specs.Numbers as refusal
-use Rattle.refusal.specs.Order.{first, _if_}
+use Rattle.refusal.specs.Order.{first, _if_, unless}
 use Rattle.moment.specs.Time.{movedOf, overOf, tauOf, tauMillisOf, million}
 use Rattle.moment.specs.Range.{taken, countOf}
 use Rattle.moment.specs.declared.Moment.{Moment}
@@ -51,11 +51,6 @@ shiftedOf s p uRec bias centre =
 unfoldable pub receivedOf : State → Vec3 → Float → Float → Float → Float → Float
 receivedOf s p uRec near bias centre = cond (lt (distOf s p) one) (centre ⊕ near) (shiftedOf s p uRec bias centre)
 
--- refused by this number, or else r
-abbrev pub unless : ℕ → Prediction → Prediction
-unless zero r = r
-unless (suc n) r = Refused (suc n)
-
 -- of the two adjusted moments, the first that is too far
 abbrev pub farMoments : ℕ → ℕ → ℕ
 farMoments tAdj tCorr = first ((refusal.far-moment if overOf tAdj) ∷ (refusal.far-moment if overOf tCorr) ∷ [])
@@ -72,14 +67,14 @@ unfoldable pub predictedAt : Elements → Rates → ℕ → ℕ → SinCos → F
 predictedAt e k epoch t turn dt near bias centre p uRec =
     let tAdj = adjustedOf t dt in
     let tCorr = correctedOf tAdj (propagatedOf e k (tauOf tAdj epoch) turn) in
-    unless (farMoments tAdj tCorr) (Frequency (receivedOf (propagatedOf e k (tauOf tCorr epoch) turn) p uRec near bias centre))
+    unless Refused (farMoments tAdj tCorr) (Frequency (receivedOf (propagatedOf e k (tauOf tCorr epoch) turn) p uRec near bias centre))
 
 -- The Rust's text, over counts of nanoseconds, with the rotation at t_obs; `near` is added to the centre within a metre
 unfoldable pub predictedOf : Float → Float → Float → Float → ℕ → ℕ → SinCos → Float → Float → Float → Float → Vec3 → Prediction
 predictedOf a i raan0 u0 epoch t turn dt near bias centre p =
     let tAdj = adjustedOf t dt in
     let tCorr = correctedOf tAdj (ecefAt a i raan0 u0 (tauOf tAdj epoch) turn) in
-    unless (farMoments tAdj tCorr)
+    unless Refused (farMoments tAdj tCorr)
     (Frequency (receivedOf (ecefAt a i raan0 u0 (tauOf tCorr epoch) turn) p (potentialOf (p .x) (p .y) (p .z)) near bias centre))
 
 -- what is worked out before is the Rust's
@@ -90,7 +85,7 @@ predicted-hoisted e epoch t turn dt near bias centre p = simp hoisted
 
 unfoldable pub predictFrequencyOf : Float → Float → Float → Float → Moment → Moment → Float → Float → Float → Vec3 → Prediction
 predictFrequencyOf a i raan0 u0 epoch tObs dt df centre p =
-    unless (first ((refusal.moment-range if not (taken epoch && taken tObs)) ∷ []))
+    unless Refused (first ((refusal.moment-range if not (taken epoch && taken tObs)) ∷ []))
     (predictedOf a i raan0 u0 (countOf epoch) (countOf tObs) (turnOf tObs) dt df df centre p)
 
 unfoldable pub biasOf : DfPoly → Float → Float
@@ -98,5 +93,5 @@ biasOf d tau = d .0 ⊕ d .1 ⊗ tau ⊕ d .2 ⊗ tau ⊗ tau
 
 unfoldable pub predictFrequencyPolyOf : Float → Float → Float → Float → Moment → Moment → Float → DfPoly → Moment → Float → Vec3 → Prediction
 predictFrequencyPolyOf a i raan0 u0 epoch tObs dt d tRef centre p =
-    unless (first ((refusal.moment-range if not (taken epoch && taken tObs && taken tRef)) ∷ []))
+    unless Refused (first ((refusal.moment-range if not (taken epoch && taken tObs && taken tRef)) ∷ []))
     (predictedOf a i raan0 u0 (countOf epoch) (countOf tObs) (turnOf tObs) dt (d .0) (biasOf d (tauMillisOf (countOf tObs) (countOf tRef))) centre p)

@@ -9,7 +9,7 @@ use Rattle.float.specs.Constant.{decimal}
 use Rattle.float.specs.Ops.{_⊕_, _⊖_, _⊗_, _⊘_, bits}
 use Rattle.float.specs.Trig.{sinOf, cosOf}
 use Rattle.refusal.specs.Numbers as refusal
-use Rattle.refusal.specs.Order.{first, _if_}
+use Rattle.refusal.specs.Order.{first, _if_, unless}
 use Rattle.moment.specs.Time.{secondsOf, tauOf}
 use Rattle.moment.specs.Range.{taken, countOf}
 use Rattle.moment.specs.declared.Moment.{Moment}
@@ -102,12 +102,7 @@ hoisted e tau turn = refl
 abbrev pub turnOf : Moment → SinCos
 turnOf m = turnAt (secondsOf (m .seconds)) (m .nanos)
 
--- refused by this number, or else r
-abbrev pub unless : ℕ → Ecef → Ecef
-unless zero r = r
-unless (suc n) r = Refused (suc n)
-
 unfoldable pub propagateEcefOf : Float → Float → Float → Float → Moment → Moment → Moment → Ecef
 propagateEcefOf a i raan0 u0 epoch tOrbit tRotate =
-    unless (first ((refusal.moment-range if not (taken epoch && taken tOrbit && taken tRotate)) ∷ []))
+    unless Refused (first ((refusal.moment-range if not (taken epoch && taken tOrbit && taken tRotate)) ∷ []))
     (At (ecefAt a i raan0 u0 (tauOf (countOf tOrbit) (countOf epoch)) (turnOf tRotate)))

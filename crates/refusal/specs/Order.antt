@@ -1,7 +1,7 @@
 -- A call's refusals in the order in which it checks them: the first whose condition holds is given.
 use mathlib.Core.Bool.{Bool, cond}
 use mathlib.Core.List.{List, [], _∷_}
-use Prim.Native.Nat.{ℕ}
+use Prim.Native.Nat.{ℕ, zero, suc}
 
 -- a refusal's number, and its condition
 pub record Refusal : Type 0 where
@@ -16,3 +16,8 @@ n if b = record { number = n; when = b }
 abbrev pub first : List Refusal → ℕ
 first [] = 0
 first (r ∷ rs) = cond (r .when) (r .number) (first rs)
+
+-- a call's answer: refused by this number, or else, where it is 0, this one; `refused` is the answer's case that holds a number
+abbrev pub unless : {A : Type 0} → (ℕ → A) → ℕ → A → A
+unless refused zero answer = answer
+unless refused (suc n) answer = refused (suc n)
