@@ -1,0 +1,4 @@
+pub mod Tests
+pub mod Numbers
+pub mod Lists
+pub mod Signed

@@ -1,0 +1,1 @@
+// Laws that several crates' proofs cite: in proofs/, and no code.
