@@ -2,18 +2,20 @@
 use mathlib.Core.Path.{_≡_, refl, sym, ap, _∙_, subst}
 use mathlib.Core.Bool.{Bool, true, false}
 use mathlib.Core.List.{List, _∷_}
-use Prim.Native.Nat.{ℕ, zero, suc, _+_, _-_, _*_, _/_, _≤_, _<_}
+use Prim.Native.Nat.{ℕ, suc, _+_, _-_, _*_, _/_, _≤_, _<_}
 use native.Mathlib.Nat.{le-of-eq}
 use native.Mathlib.Omega.{arith}
 use lib.Dec.{eqb}
 use lib.ListN.{length, getD, set, take, drop, length-drop, length-set, drop-of-length-le}
-use lib.Seq.{drop-cons, drop-length, take-all, getD-set-same, getD-set-other}
+use lib.Seq.{drop-cons, drop-length, getD-set-same, getD-set-other}
 use lib.IntN.{ℤ, pos, negsuc, _-ℤ_}
 use lib.Ieee.{Float, nan}
 use mir.Syntax.{w64}
 use mir.Val.{SFits, toZ, ofZ}
 use mir.ValLaws.{toZ-ofZ, ofZ-toZ}
 use borrow.Author.Tests.{eq-eqb, ne-eqb, eqb-true, eqb-false, lt-ltb, le-ltb}
+use Rattle.laws.proofs.Signed.{difference, small, difference-fits}
+use Rattle.laws.proofs.Lists.{rest}
 use Rattle.answer_lines.specs.Lines.{firstPlace, beginsWith, askedFields, answerFields, fieldsFrom, afterList, fieldAt, floatField, countField, signedField, every, sameList, FilledBy, ReadsSet}
 
 here : {A : Type 0} (l : List A) (i : ℕ) (d : A) → i < length l → drop i l ≡ getD l i d ∷ drop (i + 1) l
@@ -89,9 +91,6 @@ module _ {A : Type 0} (items : List ℕ → List A → Bool) (fields : List ℕ)
 
 -- ---- parts
 
-pub rest : (l : List ℕ) (a : ℕ) → take (length l - a) (drop a l) ≡ drop a l
-rest l a = take-all (length l - a) (drop a l) (le-of-eq (length-drop a l))
-
 -- a place in what follows place a, counted from the beginning
 module _ (l : List ℕ) (a r : ℕ) (h : a ≤ length l) (g : r ≤ length (take (length l - a) (drop a l))) where
   pub counted : a + r ≤ length l
@@ -163,27 +162,14 @@ module _ {A : Type 0} (f : ℕ → A) (none : A) where
 
 -- ---- a number from its two's complement
 
-read-pos : (m : ℕ) → m < 9223372036854775808 → toZ w64 m ≡ pos m
-read-pos m h = toZ-ofZ w64 (pos m) (record { sfits = omega arith })
-
-below-zero : (m : ℕ) → negsuc 0 -ℤ pos m ≡ negsuc m
-below-zero zero = refl
-below-zero (suc m) = ap negsuc (omega arith)
-
 module _ (u : ℕ) (h : 9223372036854775808 ≤ u) (g : u < 18446744073709551616) where
-  difference : negsuc 0 -ℤ toZ w64 (18446744073709551615 - u) ≡ negsuc (18446744073709551615 - u)
-  difference = ap (λ (z : ℤ). negsuc 0 -ℤ z) (read-pos (18446744073709551615 - u) (omega arith)) ∙ below-zero (18446744073709551615 - u)
-
-  small : SFits w64 (negsuc (18446744073709551615 - u))
-  small = record { sfits = omega arith }
-
   pub negative-fits : SFits w64 (negsuc 0 -ℤ toZ w64 (18446744073709551615 - u))
-  negative-fits = subst (SFits w64) (sym difference) small
+  negative-fits = difference-fits u h g
 
   pub negative : ofZ w64 (toZ w64 (ofZ w64 (negsuc 0 -ℤ toZ w64 (18446744073709551615 - u)))) ≡ u
   negative =
       let e : 18446744073709551616 - suc (18446744073709551615 - u) ≡ u = omega arith in
-      ap (λ (z : ℤ). ofZ w64 (toZ w64 (ofZ w64 z))) difference ∙ ap (ofZ w64) (toZ-ofZ w64 (negsuc (18446744073709551615 - u)) small) ∙ e
+      ap (λ (z : ℤ). ofZ w64 (toZ w64 (ofZ w64 z))) (difference u h g) ∙ ap (ofZ w64) (toZ-ofZ w64 (negsuc (18446744073709551615 - u)) (small u h g)) ∙ e
 
 pub positive : (u : ℕ) → u < 18446744073709551616 → ofZ w64 (toZ w64 u) ≡ u
 positive u h = ofZ-toZ w64 u (record { fits = omega (arith, h) })

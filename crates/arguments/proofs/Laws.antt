@@ -1,6 +1,6 @@
 -- What follows for a fit's work: of the non-empty passes, and of arguments that are not refused. Assumes nothing.
-use mathlib.Core.Path.{_≡_, refl, sym, _∙_}
-use mathlib.Core.Bool.{Bool, true, false, not, cond, true≢false, _&&_, _||_}
+use mathlib.Core.Path.{_≡_, refl, _∙_}
+use mathlib.Core.Bool.{Bool, true, false, not, cond, _&&_, _||_}
 use mathlib.Core.List.{List, [], _∷_}
 use Prim.Native.Nat.{ℕ, zero, suc, _+_, _≤_, _<_}
 use native.Mathlib.Nat.{le-of-suc-le-suc, not-suc-le-zero}
@@ -10,6 +10,7 @@ use lib.IntN.{ℤ}
 use lib.ListN.{length, getD}
 use lib.Ieee.{Float, nan, lt, isNan}
 use borrow.Author.Tests.{eqb-true, eqb-false, leb-true, ltb-false}
+use Rattle.laws.proofs.Tests.{or-false, and-true}
 use Rattle.refusal.specs.Numbers as refusal
 use Rattle.refusal.specs.Order.{Refusal, first, _if_}
 use Rattle.float.specs.Ops.{bits}
@@ -79,14 +80,6 @@ sizes-kept {counts} s =
     record { few = omega (arith, few-kept counts, s .few); centred = refl; small = s .small; pairs = s .pairs; whole = total-kept counts ∙ s .whole }
 
 -- ---- arguments that are not refused
-
-or-false : (a b : Bool) → (a || b) ≡ false → (a ≡ false) × (b ≡ false)
-or-false true b e = absurd (true≢false e)
-or-false false b e = (refl, e)
-
-and-true : (a b : Bool) → (a && b) ≡ true → (a ≡ true) × (b ≡ true)
-and-true true b e = (refl, e)
-and-true false b e = absurd (true≢false (sym e))
 
 guess : (rec : Vec3) (a i : Float) → nanArgument rec a i ≡ false → outOfRange a i ≡ false → Guess rec a i
 unfolding nanArgument outOfRange

@@ -5,13 +5,13 @@ use mathlib.Core.List.{List, [], _∷_, _++_, append-nil, append-assoc}
 use Prim.Native.Nat.{ℕ, zero, suc, _+_, _-_, _*_, _^_, _≤_, _<_}
 use mathlib.Core.Logic.{_⊎_, inl, inr}
 use native.Mathlib.Nat.{eq-zero-or-pos, add-zero}
-use native.Mathlib.Numerals.{add-one}
 use native.Mathlib.Omega.{arith}
 use lib.Dec.{leb, ltb, eqb}
 use lib.ListN.{length, getD, take, drop, drop-of-length-le, length-drop, length-append, take-append-drop}
-use lib.Seq.{getD-append-add, drop-cons, drop-drop, take-all, take-at, drop-at, getD-at, length-take-le}
+use lib.Seq.{getD-append-add, drop-drop, take-all, take-at, drop-at, getD-at, length-take-le}
 use lib.Ieee.{nan, inf, binary64, round}
 use borrow.Author.Tests.{eq-eqb, ne-eqb, eqb-true, eqb-false, le-leb, lt-leb, leb-true}
+use Rattle.laws.proofs.Lists.{here}
 use Rattle.text.specs.Text.{bytes}
 use Rattle.decimal.specs.Read.{isDigit, digitRun, withDigits, lower, spells, name, sized, exponentAt, exponent, ended, unsigned, number}
 use Rattle.decimal.specs.Grammar.{Digits, no-digit, digit, Sign, no-sign, plus, minus, Mantissa, whole, point-last, point-first, Exp, no-exp, exp, numeral, limited, Body, is-inf, is-infinity, is-nan, is-number, Written, written}
@@ -89,9 +89,6 @@ record Found (l : List ℕ) (w p : ℕ) (m ds : List ℕ) : Type 0 where
   pub digits : take w l ++ take p (drop (w + 1) l) ≡ ds
   pub count : w + p ≡ length ds
   pub some-digit : 0 < w + p
-
-here : (l : List ℕ) (i : ℕ) → i < length l → drop i l ≡ getD l i 0 ∷ drop (i + 1) l
-here l i h = drop-cons l i 0 h ∙ ap (λ (k : ℕ). getD l i 0 ∷ drop k l) (sym (add-one i))
 
 module _ (s : Bool) (l : List ℕ) (w p : ℕ) (m ds : List ℕ) (f : Found l w p m ds) where
   exponent-at-said : (en : Bool) (x e : ℕ) (sg : List ℕ) → lower e ≡ 101 → Sign sg en → l ≡ m ++ (e ∷ (sg ++ drop x l)) → x ≤ length l → Said (Body s l) (exponentAt s l w p en x)

@@ -10,7 +10,7 @@ use lib.ListN.{length, take, drop}
 use lib.Seq.{sets, sets-eq, length-sets, take-at}
 use lib.Ieee.{Float}
 use borrow.Author.Tests.{le-leb, le-ltb, ne-eqb}
-use Rattle.moment.proofs.Samples.{and-true}
+use Rattle.laws.proofs.Tests.{and-true}
 use Rattle.frame.specs.declared.Vec3.{Vec3}
 use Rattle.stored.specs.Numbers.{numbersIn}
 use Rattle.stored.specs.Sets.{passesIn, countsIn, samplesIn, timesIn, freqsIn, sizedRight, loadRefusal, loaded, Loads}

@@ -19,7 +19,8 @@ use borrow.Author.Tests.{lt-ltb, le-ltb}
 use Rattle.roots.proofs.Decode.{0f, of-inf, low-value, high-value}
 use Rattle.float.specs.Ops.{bits}
 use Rattle.float.specs.Log.{shift, significandOf, exponentOf, logOf, lnOf}
-use Rattle.float.proofs.Own.{round-own, lt-or-ge}
+use Rattle.laws.proofs.Numbers.{lt-or-ge}
+use Rattle.float.proofs.Own.{round-own}
 
 -- ---- one binade for a number
 exponent-le : (a b z : ℕ) → 2 ^ a ≤ z → z < 2 ^ (b + 1) → a ≤ b

@@ -1,4 +1,5 @@
 pub mod Rounding
+pub mod Bounds
 pub mod Angle
 pub mod Rest
 pub mod Own

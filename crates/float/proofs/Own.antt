@@ -1,12 +1,11 @@
 -- A value that f64 holds is written in one way, so rounding its own fraction gives it back, and v % c is v for a v below c in size. Assumes nothing.
 use mathlib.Core.Path.{_≡_, refl, sym, ap, _∙_, subst}
-use mathlib.Core.Logic.{_⊎_, inl, inr}
-use mathlib.Core.Bool.{not, Bool, true, false, true≢false, _&&_}
+use mathlib.Core.Bool.{Bool, true, false, true≢false, _&&_}
 use Prim.Native.Nat.{ℕ, zero, suc, _+_, _-_, _*_, _%_, _^_, _≤_, _<_}
 use native.Mathlib.Nat.{le-of-suc-le-suc, mul-one, one-mul, mul-assoc, mul-left-comm, mul-right-comm, zero-mul, mul-pos, zero-lt-suc, lt-irrefl, suc-ne-zero, suc-inj, pow-succ', pow-suc, eq-of-mul-eq-mul-right, mod-eq-of-lt, not-le-of-lt, lt-of-not-le, add-suc, mul-comm, lt-of-mul-lt-mul-right, mul-lt-mul-of-pos-right}
 use native.Mathlib.Omega.{arith}
 use lib.IntN.{ℤ, pos, negsuc}
-use lib.Dec.{T, ltb, leb, eqb, ltb→lt, nltb→le, leb→le, eqb→eq, lit<, lit≤}
+use lib.Dec.{T, ltb, leb, eqb, ltb→lt, leb→le, eqb→eq, lit<, lit≤}
 use lib.Pow.{pow-pos, pow-add, pow-lt}
 use lib.Ieee.{Float, nan, inf, fin, binary64, up, down, fits, round, rem, lt, neg, ofBits}
 use lib.Ieee.Fits.{and-l, and-r, up-pos, down-pos, round-fits}
@@ -15,13 +14,6 @@ use lib.Ieee.Scale.{round-same}
 use borrow.Author.Tests.{ltb-true}
 use Rattle.float.specs.Ops.{_⊛_}
 use Rattle.float.specs.Trig.{full}
-
-pub lt-or-ge : (a b : ℕ) → (a < b) ⊎ (b ≤ a)
-lt-or-ge a b = go (ltb a b) (ltb→lt a b) (nltb→le a b)
-  where
-    go : (t : Bool) → (T t → a < b) → (T (not t) → b ≤ a) → (a < b) ⊎ (b ≤ a)
-    go true p q = inl (p tt)
-    go false p q = inr (q tt)
 
 -- ---- m × 2 ^ a, m odd, has one m and one a
 even-odd : (m t : ℕ) → m % 2 ≡ 1 → m ≡ 2 * t → ⊥

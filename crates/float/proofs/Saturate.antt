@@ -1,6 +1,6 @@
 -- What the tests before a saturating cast say of its answer. Assumes nothing.
 use mathlib.Core.Path.{_≡_, refl, sym, ap}
-use mathlib.Core.Bool.{Bool, true, false, true≢false, _||_}
+use mathlib.Core.Bool.{true, false, true≢false}
 use Prim.Native.Nat.{ℕ, _+_, _-_, _*_, _/_, _^_, _≤_, _<_, min}
 use native.Mathlib.Nat.{div-lt-iff-lt-mul, le-div-iff-mul-le, zero-div}
 use native.Mathlib.Omega.{arith}
@@ -10,6 +10,7 @@ use lib.Ieee.Fits.{down-pos}
 use lib.Ieee.Nearest.{div-same}
 use lib.Ieee.Exact.{HasValue}
 use borrow.Author.Tests.{ltb-true, ltb-false}
+use Rattle.laws.proofs.Tests.{or-left}
 use Rattle.float.specs.Ops.{bits}
 
 -- 2^64 and above
@@ -54,10 +55,6 @@ high-i64 (fin false m e) p q =
     let d : 9223372036854775808 ≤ m * up e / down e = le-div-iff-mul-le (down-pos e) .1 l in
     let g : 9223372036854775807 ≡ min (m * up e / down e) (2 ^ 63 - 1) = omega arith in
     ap pos g
-
-or-left : (a b : Bool) → (a || b) ≡ false → a ≡ false
-or-left true b h = h
-or-left false b h = refl
 
 -- below -2^63
 pub low-i64 : (x : Float) → le (neg (bits 0x43e0000000000000)) x ≡ false → lt x (bits 0) ≡ true → negℤ (pos 9223372036854775808) ≡ toSigned 63 x

@@ -1,6 +1,6 @@
 -- What tests on a float say of its sign. Assumes nothing.
 use mathlib.Core.Path.{_≡_, refl, sym, ap, subst, _∙_}
-use mathlib.Core.Bool.{Bool, true, false, true≢false, not, _&&_, cond}
+use mathlib.Core.Bool.{Bool, true, false, true≢false, not, cond}
 use Prim.Native.Nat.{ℕ, zero, suc, _+_, _*_, _≤_, _<_}
 use native.Mathlib.Nat.{mul-pos, zero-lt-suc, lt-irrefl, lt-of-lt-of-le}
 use native.Mathlib.Omega.{arith}
@@ -9,6 +9,7 @@ use lib.Dec.{T, eqb→eq}
 use lib.Ieee.{Float, nan, inf, fin, binary64, up, down, lt, eq, ne, neg, div, ofBits, round, isNan, fits, level}
 use lib.Ieee.Fits.{up-pos}
 use borrow.Author.Tests.{ltb-false, le-ltb, eq-eqb, eqb-true}
+use Rattle.laws.proofs.Tests.{and-left}
 use Rattle.float.specs.Ops.{bits, one, _⊘_, signumOf, absOf}
 use Rattle.float.proofs.Own.{flat}
 
@@ -32,10 +33,6 @@ abs-below (inf true) p = refl
 abs-below (inf false) p = absurd (true≢false (sym p))
 abs-below (fin true m e) p = refl
 abs-below (fin false m e) p = absurd (true≢false (sym p ∙ le-ltb (m * up e * 1) (0 * down e) (omega arith)))
-
-and-left : (a b : Bool) → (a && b) ≡ true → a ≡ true
-and-left true b h = refl
-and-left false b h = h
 
 -- a number equal to zero
 pub none : (s : Bool) (m : ℕ) (e : ℤ) → eq (fin s m e) (bits 0) ≡ true → m * up e ≡ 0

@@ -1,5 +1,5 @@
 -- The Julian date (Meeus, Astronomical Algorithms, chapter 7), in the Rust's order.
-use Prim.Native.Nat.{ℕ, zero, suc, _-_, _/_, _%_}
+use Prim.Native.Nat.{ℕ, _-_, _/_, _%_}
 use mathlib.Core.Bool.{cond, not}
 use mathlib.Core.List.{[], _∷_}
 use lib.Dec.{leb}

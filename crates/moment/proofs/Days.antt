@@ -6,6 +6,7 @@ use native.Mathlib.Nat.{add-assoc}
 use native.Mathlib.Omega.{arith}
 use lib.Dec.{ltb, eqb, lit<}
 use borrow.Author.Tests.{eqb-true, ltb-true, ltb-false, lt-ltb, le-ltb}
+use Rattle.laws.proofs.Tests.{and-left, and-right}
 use Rattle.moment.specs.Calendar.{leap, monthLength, tomorrowIn, tomorrow, dateOf, monthsLength, ordinalOf}
 use Rattle.moment.specs.declared.calendar.Date.{Date}
 
@@ -13,15 +14,6 @@ use Rattle.moment.specs.declared.calendar.Date.{Date}
 allBelow : ℕ → (ℕ → Bool) → Bool
 allBelow zero p = true
 allBelow (suc n) p = p n && allBelow n p
-
-and-left : (a b : Bool) → (a && b) ≡ true → a ≡ true
-and-left true b h = refl
-and-left false b h = h
-
-and-right : (a b : Bool) → (a && b) ≡ true → b ≡ true
-and-right true b h = h
-and-right false true h = refl
-and-right false false h = h
 
 -- ---- four years from a March on: the r-th of their 1,461 days, with years counted from 0
 turnOf : ℕ → ℕ

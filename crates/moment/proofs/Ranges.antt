@@ -1,11 +1,12 @@
 -- What the tests of `instant_of` say. Assumes nothing.
 use mathlib.Core.Path.{_≡_, refl, sym, ap, subst}
-use mathlib.Core.Bool.{Bool, true, false, true≢false, cond, _&&_}
+use mathlib.Core.Bool.{Bool, true, false, cond, _&&_}
 use Prim.Native.Nat.{ℕ, _≤_, _<_}
 use native.Mathlib.Omega.{arith}
 use lib.IntN.{ℤ}
 use lib.Dec.{leb, ltb}
 use borrow.Author.Tests.{lt-leb, le-leb, lt-ltb, le-ltb, leb-true, ltb-true}
+use Rattle.laws.proofs.Tests.{and-true}
 use Rattle.moment.specs.Origin.{start1957, start2057}
 use Rattle.moment.specs.Time.{secondsOf}
 use Rattle.moment.specs.Range.{inRange, givenOf, Within}
@@ -43,10 +44,6 @@ module _ (s : ℤ) (n k : ℕ) (e : k ≡ secondsOf s) where
   )
 
 -- ---- what a caller learns from the answer
-and-true : (a b : Bool) → (a && b) ≡ true → (a ≡ true) × (b ≡ true)
-and-true true b h = (refl, h)
-and-true false b h = absurd (true≢false (sym h))
-
 -- a moment that was taken
 pub record Is (s : ℤ) (n secs nanos : ℕ) : Type 0 where
   pub yes : inRange s n ≡ true

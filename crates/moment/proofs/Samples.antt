@@ -1,7 +1,7 @@
 -- Sample times at the boundary: what the range test says in unsigned numbers, what the machine reads of a sum, and what
 -- callers ask of moments. Assumes nothing.
 use mathlib.Core.Path.{_≡_, refl, sym, ap, ap₂, _∙_}
-use mathlib.Core.Bool.{Bool, true, false, not, _&&_, true≢false}
+use mathlib.Core.Bool.{Bool, true, false, not, _&&_}
 use mathlib.Core.List.{List, [], _∷_}
 use Prim.Native.Nat.{ℕ, zero, suc, _+_, _-_, _*_, _/_, _%_, _<_, _≤_, _^_}
 use native.Mathlib.Nat.{le-of-suc-le-suc, not-suc-le-zero}
@@ -16,16 +16,13 @@ use mir.Syntax.{w64}
 use mir.Val.{SFits, toZ, ofZ}
 use mir.ValLaws.{toZ-ofZ, toZ-pos}
 use borrow.Author.Tests.{lt-ltb, le-ltb, le-leb, ltb-true, ltb-false, not-true}
+use Rattle.laws.proofs.Tests.{and-true}
 use Rattle.moment.specs.Origin.{count1957, count1970, count2057, countsStart, perSecond, start1957, start1970, start2057}
 use Rattle.moment.specs.declared.Instant.{Instant}
 use Rattle.moment.specs.declared.Moment.{Moment}
 use Rattle.moment.specs.Time.{nanosOf, secondsOf, Sound}
 use Rattle.moment.specs.Range.{inRange, taken, countOf, Within}
 use Rattle.moment.specs.Sample.{timeInRange, timesInRange, Timed, shifted, sampleCount, instantAt, momentAt, sinceOf}
-
-pub and-true : (a b : Bool) → (a && b) ≡ true → (a ≡ true) × (b ≡ true)
-and-true true b e = (refl, e)
-and-true false b e = absurd (true≢false (sym e))
 
 pub and-false : (a b : Bool) → a ≡ false → false ≡ (a && b)
 and-false a b e = rw e

@@ -10,6 +10,7 @@ use native.Mathlib.Omega.{arith}
 use borrow.Author.Tests.{eq-eqb, ne-eqb, eqb-true, eqb-false}
 use lib.Dec.{eqb, lit<}
 use lib.Ieee.{Float, toUnsigned}
+use Rattle.laws.proofs.Numbers.{sub-step}
 use Rattle.float.specs.Ops.{_⊕_, _⊖_, _⊗_, _⊘_, floorOf, raised}
 use Rattle.monna.specs.Digits.{Base, num, digits, placed, clampOf, inverseOf, taken, times, valuation, gap}
 
@@ -69,13 +70,10 @@ pub take-start : (n p : ℕ) (x : Float) {y : Float} → y ≡ clampOf x → Tak
 unfolding inverseOf
 take-start n p x e = record { gives = rw (e, sub-zero n) }
 
-step : (a b : ℕ) → a < b → b - a ≡ suc (b - (a + 1))
-step a b h = omega arith
-
 pub take-one : {n i p : ℕ} {x : Float} {factor val t : ℕ} (q w f : Float) (d : ℕ) → i < n → q ≡ num p → w ≡ floorOf (x ⊗ q) → d ≡ toUnsigned 64 w → f ≡ num d → Taking (n - i) p x factor val t
     → Taking (n - (i + 1)) p (x ⊗ q ⊖ f) (factor * p) (val + d % p * factor) t
 unfolding taken
-take-one {n = n} {i = i} q w f d h e v g k l = record { gives = rw (k, g, v, e) (rw (step i n h) at (l .gives)) }
+take-one {n = n} {i = i} q w f d h e v g k l = record { gives = rw (k, g, v, e) (rw (sub-step i n h) at (l .gives)) }
 
 pub all-taken : {n i p : ℕ} {x : Float} {factor val t : ℕ} → n ≤ i → Taking (n - i) p x factor val t → val ≡ t
 unfolding taken

@@ -3,7 +3,6 @@
 use mathlib.Core.Path.{_≡_, refl}
 use mathlib.Core.Bool.{not, _&&_}
 use mathlib.Core.List.{[], _∷_}
-use Prim.Native.Nat.{ℕ, zero, suc}
 use lib.Ieee.{Float, neg, ofBits, round}
 use Rattle.float.specs.Constant.{decimal}
 use Rattle.float.specs.Ops.{_⊕_, _⊖_, _⊗_, _⊘_, bits}

@@ -9,6 +9,7 @@ use lib.Dec.{eqb}
 use lib.ListN.{length, getD, take, drop}
 use lib.Seq.{take-length, drop-length}
 use borrow.Author.Tests.{eq-eqb, ne-eqb}
+use Rattle.laws.proofs.Tests.{and-right}
 use Rattle.passes.specs.Text.{Placed, push, startsLf, lines, until, Cut}
 
 -- the first line's length
@@ -54,10 +55,6 @@ unfolding startsLf
 starts-until [] e = let z : _≡_ {A = ℕ} 0 1 = cc in absurd (omega arith)
 starts-until (d ∷ l) e = (until-lf d l e, first-lf d l e)
 
-and-r : (x y : Bool) → (x && y) ≡ true → y ≡ true
-and-r true y e = e
-and-r false y e = let z : _≡_ {A = ℕ} 0 1 = cc in absurd (omega arith)
-
 push-line : (at : ℕ) (cs : List ℕ) {at′ : ℕ} {ls : List Placed} {l : List ℕ} {r : List Placed} → ls ≡ placed at′ l ∷ r → push at cs ls ≡ placed at (cs ++ l) ∷ r
 unfolding push
 push-line at cs e = ap (push at cs) e
@@ -74,7 +71,7 @@ cut (c ∷ l) at h = go (eqb c 10) refl (eqb c 13 && startsLf l) refl (cut l (at
     go true p b q ih = lines-lf c l at p ∙ sym (λ j. placed at (take (first-lf c l p j) (c ∷ l)) ∷ lines (at + suc (until-lf c l p j)) (drop (suc (until-lf c l p j)) (c ∷ l)))
     go false p true q ih =
         let u = until-no c l p in
-        let s = starts-until l (and-r (eqb c 13) (startsLf l) q) in
+        let s = starts-until l (and-right (eqb c 13) (startsLf l) q) in
         lines-no c l at p q ∙ push-line at [] (ih (omega arith))
         ∙ (λ j. placed at (take (s .1 j) l) ∷ lines (further (suc (until 10 l)) j) (drop (suc (until 10 l)) l))
         ∙ sym (λ j. placed at (take ((first-no c l p ∙ ap (λ (b : Bool). cond b 0 (suc (first l))) q) j) (c ∷ l)) ∷ lines (at + suc (u j)) (drop (suc (u j)) (c ∷ l)))

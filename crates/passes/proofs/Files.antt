@@ -18,7 +18,7 @@ use Rattle.passes.specs.File.{opening, advance, after, timeBefore, freqB
 use Rattle.passes.specs.declared.line.Line.{Line}
 use Rattle.passes.specs.declared.line.Line.the-variants.{Skipped, Refusal, Name, Center, Sample}
 use Rattle.passes.specs.declared.file.PassFile.{PassFile}
-use Rattle.passes.proofs.Texts.{rest}
+use Rattle.laws.proofs.Lists.{rest}
 use Rattle.passes.proofs.Names.{Within, line-in}
 
 pub same-line : (file : List ℕ) (at n : ℕ) → take (at + n - at) (drop at file) ≡ take n (drop at file)

@@ -3,12 +3,12 @@ use mathlib.Core.Path.{_≡_, refl, sym, ap, _∙_}
 use mathlib.Core.Bool.{Bool, true, false, cond}
 use mathlib.Core.List.{List, [], _∷_, _++_}
 use Prim.Native.Nat.{ℕ, zero, suc, _+_, _-_, _≤_, _<_}
-use native.Mathlib.Nat.{le-of-eq}
 use native.Mathlib.Numerals.{add-one}
 use native.Mathlib.Omega.{arith}
 use lib.ListN.{length, getD, take, drop, drop-of-length-le, length-drop}
-use lib.Seq.{drop-cons, take-all, take-suc, length-take-le}
+use lib.Seq.{drop-cons, take-suc, length-take-le}
 use borrow.Author.Tests.{eq-eqb, ne-eqb, le-leb, lt-leb}
+use Rattle.laws.proofs.Lists.{rest}
 use Rattle.passes.specs.Text.{blank, blanks, keep, trimEnd, trim, until, ascii, Trimmed, Blanks, Ends}
 
 module _ (l : List ℕ) (i : ℕ) (h : i < length l) where
@@ -83,10 +83,6 @@ end-end l zero h = refl
 end-end l (suc e) h = absurd (omega arith)
 
 -- ---- parts
-
--- all from a place on
-pub rest : (l : List ℕ) (a : ℕ) → take (length l - a) (drop a l) ≡ drop a l
-rest l a = take-all (length l - a) (drop a l) (le-of-eq (length-drop a l))
 
 pub trimmed : {l : List ℕ} {s e : ℕ} → Blanks l s → Ends (take (length l - s) (drop s l)) e → Trimmed l s (s + e)
 unfolding trim

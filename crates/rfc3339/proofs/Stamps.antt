@@ -1,22 +1,17 @@
 -- Patterns and fractions. Assumes nothing.
 use mathlib.Core.Path.{_≡_, refl, sym, ap, _∙_, subst}
 use mathlib.Core.Bool.{Bool, true, false, _&&_, cond}
-use mathlib.Core.List.{List, _∷_}
+use mathlib.Core.List.{List}
 use Prim.Native.Nat.{ℕ, _+_, _-_, _*_, _^_, _≤_, _<_}
-use native.Mathlib.Nat.{mul-lt-mul-of-pos-right, one-le-pow, le-of-eq}
-use native.Mathlib.Numerals.{add-one}
+use native.Mathlib.Nat.{mul-lt-mul-of-pos-right, one-le-pow}
 use native.Mathlib.Omega.{arith}
 use lib.Dec.{lit<, leb, ltb, eqb}
-use lib.ListN.{length, getD, take, drop, drop-of-length-le, length-drop}
-use lib.Seq.{drop-cons, take-all}
+use lib.ListN.{length, getD, drop, drop-of-length-le}
 use lib.Pow.{pow-add}
+use Rattle.laws.proofs.Lists.{here}
 use Rattle.rfc3339.specs.Rfc3339.{placeFits, matches, validTime, validDate}
 use Rattle.moment.specs.Calendar.{leap, monthLength}
 use borrow.Author.Tests.{ltb-false, leb-true, eqb-false}
-
--- one byte on
-here : (l : List ℕ) (i : ℕ) → i < length l → drop i l ≡ getD l i 0 ∷ drop (i + 1) l
-here l i h = drop-cons l i 0 h ∙ ap (λ (k : ℕ). getD l i 0 ∷ drop k l) (sym (add-one i))
 
 pub matches-next : (p l : List ℕ) (i : ℕ) → i < length p → i < length l → matches (drop i p) (drop i l) ≡ (placeFits (getD p i 0) (getD l i 0) && matches (drop (i + 1) p) (drop (i + 1) l))
 unfolding matches
@@ -48,10 +43,6 @@ billionths {r = r} {n = n} {w = w} a e h = go
 
     go : r * w < 1000000000
     go = subst (λ (x : ℕ). r * x < 1000000000) (sym e) (subst (λ (x : ℕ). r * 10 ^ (9 - n) < x) all (mul-lt-mul-of-pos-right b (one-le-pow (9 - n) 10 (lit< tt))))
-
--- all from a place on
-pub rest : (l : List ℕ) (a : ℕ) → take (length l - a) (drop a l) ≡ drop a l
-rest l a = take-all (length l - a) (drop a l) (le-of-eq (length-drop a l))
 
 -- what the tests of a time and a day say
 pub record InDay (h m s : ℕ) : Type 0 where

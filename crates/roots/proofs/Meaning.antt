@@ -16,6 +16,7 @@ use lib.Ieee.Digits.{size-lt, size-le, size-reaches}
 use lib.Ieee.Fits.{and-l, and-r, down-pos}
 use lib.Ieee.Exact.{HasValue}
 use lib.Ieee.Positive.{first-pos}
+use Rattle.laws.proofs.Numbers.{pow-lt-back}
 use Rattle.roots.specs.Power.{square, cube}
 use Rattle.roots.specs.Root.{rounded, isqrt, sqrtOf}
 use Rattle.roots.specs.Cube.{icbrt, cbrtOf}
@@ -192,9 +193,6 @@ below-top (fin s (suc m) e) a f v A =
     lt-of-mul-lt-mul-right (down e) (subst (λ (z : ℕ). z < 2 ^ 2098 * down e) (v .1)
     (lt-of-lt-of-le (mul-lt-mul-of-pos-right (ltb→lt (suc m * up e) (2 ^ 1024 * down e) (and-r (eqb (suc m % 2) 1 && ltb (suc m) (2 ^ 53) && leb (down e) (2 ^ 1074)) (ltb (suc m * up e) (2 ^ 1024 * down e)) f)) (pow-pos 1074))
     (le-of-eq (mul-right-comm (2 ^ 1024) (down e) (2 ^ 1074)))))
-
-pow-lt-back : (a l : ℕ) → 2 ^ a < 2 ^ l → a < l
-pow-lt-back a l h = lt-of-not-le (λ (g : l ≤ a). lt-irrefl (2 ^ a) (lt-of-lt-of-le h (pow-mono g)))
 
 -- for a power with its root's whole part, at a * 2 ^ E
 module _ (f : ℕ → ℕ) {D : ℕ} (P : Power f D) (root : ℕ → ℕ) (whole : (n : ℕ) → Whole f n (root n)) (E : ℕ) (some : 0 < D) (enough : 53 * D < E)

@@ -4,30 +4,17 @@ use Prim.Native.Nat.{ℕ, suc, _+_, _-_, _*_, _/_, _%_, _^_, _≤_, _<_, compare
 use native.Mathlib.Nat.{le-of-eq, le-antisymm, lt-of-lt-of-le, lt-of-le-of-lt, lt-of-not-le, not-le-of-lt, lt-trans, mul-pos, mul-lt-mul-of-pos-right, lt-of-mul-lt-mul-right, mul-div-mul-right, div-add-mod', mod-lt, le-div-iff-mul-le, div-lt-iff-lt-mul}
 use native.Mathlib.Omega.{arith}
 use mathlib.Core.Bool.{Bool, true, false, not, cond}
-use lib.Dec.{T, isLe, isEq, eqb, leb→le, nleb→lt, eqb→eq, eqb-refl}
+use lib.Dec.{T, eqb, eqb→eq}
 use lib.Pow.{pow-add, pow-pos, pow-mono}
-use lib.Arith.{lt-of-le-ne}
 use lib.Ieee.{binary64, size, nearest, round}
 use lib.Ieee.Digits.{size-lt, size-le}
 use lib.Ieee.Nearest.{closest}
 use lib.Ieee.Order.{drop}
 use lib.Ieee.Scale.{grid, overflow, round-val}
 use lib.Ieee.Exact.{HasValue}
+use Rattle.laws.proofs.Numbers.{Cmp, cmp}
 
 -- ---- the whole number nearest to a / b, from the two midpoints beside it
-abbrev Cmp : Ordering → ℕ → ℕ → Type 0
-Cmp Ordering·lt a b = a < b
-Cmp Ordering·eq a b = a ≡ b
-Cmp Ordering·gt a b = b < a
-
-cmp : (a b : ℕ) → Cmp (compare a b) a b
-cmp a b = go (compare a b) (leb→le a b) (nleb→lt a b) (eqb→eq a b) (λ (e : a ≡ b). subst (λ (x : ℕ). T (eqb a x)) e (eqb-refl a))
-  where
-    go : (o : Ordering) → (T (isLe o) → a ≤ b) → (T (not (isLe o)) → b < a) → (T (isEq o) → a ≡ b) → (a ≡ b → T (isEq o)) → Cmp o a b
-    go Ordering·lt h k e n = lt-of-le-ne (h tt) n
-    go Ordering·eq h k e n = e tt
-    go Ordering·gt h k e n = k tt
-
 module _ (a b p : ℕ) (B : 0 < b) (lo : (2 * p + 1) * b < 2 * a) (hi : 2 * a < (2 * p + 3) * b) where
   -- 2 * a lies in [2 * w * b, (2 * w + 2) * b), in the lower or the upper half
   step : (w r : ℕ) (o : Ordering) → w * b + r ≡ a → r < b → Cmp o (r * 2) b → nearest w o ≡ suc p

@@ -4,6 +4,7 @@ use Prim.Native.Nat.{ℕ, zero, suc, _+_, _-_, _*_, _/_, _%_, _≤_, _<_}
 use native.Mathlib.Nat.{sub-zero, zero-add, suc-add}
 use native.Mathlib.Omega.{arith}
 use lib.Ieee.{Float}
+use Rattle.laws.proofs.Numbers.{sub-step}
 use Rattle.loops.specs.Loop.{for}
 use Rattle.loops.proofs.Laws.{for-ind}
 use Rattle.monna.specs.Rng.{nextState, drawn, drawOf, gaussianOf}
@@ -52,12 +53,9 @@ pub record Drawing (n : ℕ) (g t : SimpleRng) : Type 0 where
 pub draw-start : (n : ℕ) (g : SimpleRng) → Drawing (n - 0) g (afterDraws n g)
 draw-start n g = record { gives = rw (sub-zero n) }
 
-step : (a b : ℕ) → a < b → b - a ≡ suc (b - (a + 1))
-step a b h = omega arith
-
 pub draw-one : {n i : ℕ} {g h t : SimpleRng} → i < n → h ≡ drawOf g .rng → Drawing (n - i) g t → Drawing (n - (i + 1)) h t
 unfolding afterDraws drawn drawOf
-draw-one {n = n} {i = i} l e d = record { gives = rw e (rw (step i n l) at (d .gives)) }
+draw-one {n = n} {i = i} l e d = record { gives = rw e (rw (sub-step i n l) at (d .gives)) }
 
 pub all-drawn : {n i : ℕ} {g t : SimpleRng} → n ≤ i → Drawing (n - i) g t → g ≡ t
 unfolding afterDraws drawn

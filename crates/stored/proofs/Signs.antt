@@ -1,7 +1,7 @@
 -- An i64's bits by two's complement, and an f64's. Assumes nothing.
 use mathlib.Core.Path.{_≡_, refl, sym, ap, _∙_, subst}
 use mathlib.Core.Bool.{Bool, true, false, not, cond, true≢false}
-use Prim.Native.Nat.{ℕ, zero, suc, _-_, _%_, _≤_, _<_}
+use Prim.Native.Nat.{ℕ, suc, _-_, _%_, _≤_, _<_}
 use native.Mathlib.Omega.{arith}
 use lib.Dec.{T, ltb}
 use lib.IntN.{ℤ, pos, negsuc, natAbs, _-ℤ_}
@@ -13,42 +13,28 @@ use mir.Syntax.{w64}
 use mir.Val.{SFits, Fits, toZ, ofZ}
 use mir.ValLaws.{toZ-ofZ}
 use borrow.Author.Tests.{lt-ltb, le-ltb, le-leb, ltb-true, ltb-false}
+use Rattle.laws.proofs.Signed.{read-pos, difference, small, difference-fits}
 use Rattle.stored.specs.Numbers.{timeBits, timeOf}
 
 abbrev read : ℤ → ℤ
 read z = toZ w64 (ofZ w64 z)
-
--- −1 − m
-pub below-zero : (m : ℕ) → negsuc 0 -ℤ pos m ≡ negsuc m
-below-zero zero = refl
-below-zero (suc m) = ap negsuc (omega arith)
 
 pub above-zero : (n : ℕ) → negsuc 0 -ℤ negsuc n ≡ pos n
 above-zero n = simp (le-ltb (suc n) 1 (omega arith)) (ap pos (omega arith))
 
 -- ---- a time from its bits
 
--- a number below 2 ^ 63 is read as itself
-pub read-pos : (m : ℕ) → m < 9223372036854775808 → toZ w64 m ≡ pos m
-read-pos m h = toZ-ofZ w64 (pos m) (record { sfits = omega arith })
-
 pub time-early : (u : ℕ) → u < 9223372036854775808 → toZ w64 u ≡ timeOf u
 unfolding timeOf
 time-early u h = read-pos u h ∙ simp (lt-ltb u 9223372036854775808 h)
 
 module _ (u : ℕ) (h : 9223372036854775808 ≤ u) (g : u < 18446744073709551616) where
-  difference : negsuc 0 -ℤ toZ w64 (18446744073709551615 - u) ≡ negsuc (18446744073709551615 - u)
-  difference = ap (λ (z : ℤ). negsuc 0 -ℤ z) (read-pos (18446744073709551615 - u) (omega arith)) ∙ below-zero (18446744073709551615 - u)
-
-  small : SFits w64 (negsuc (18446744073709551615 - u))
-  small = record { sfits = omega arith }
-
   pub late-fits : SFits w64 (negsuc 0 -ℤ toZ w64 (18446744073709551615 - u))
-  late-fits = subst (SFits w64) (sym difference) small
+  late-fits = difference-fits u h g
 
   pub time-late : read (negsuc 0 -ℤ toZ w64 (18446744073709551615 - u)) ≡ timeOf u
   unfolding timeOf
-  time-late = ap read difference ∙ toZ-ofZ w64 (negsuc (18446744073709551615 - u)) small ∙ simp (le-ltb u 9223372036854775808 h)
+  time-late = ap read (difference u h g) ∙ toZ-ofZ w64 (negsuc (18446744073709551615 - u)) (small u h g) ∙ simp (le-ltb u 9223372036854775808 h)
 
 -- the time of any 64 bits is kept as it is
 pub kept : (u : ℕ) {r : ℤ} → u < 18446744073709551616 → r ≡ timeOf u → read r ≡ timeOf u

@@ -13,7 +13,7 @@ use lib.ListN.{length, take, drop, length-append, length-drop, take-append-drop}
 use lib.Seq.{drop-drop, take-nil, take-all}
 use borrow.Author.Tests.{ltb-true, ltb-false, lt-ltb, le-ltb, eq-eqb, not-true}
 use Rattle.moment.specs.Sample.{timeInRange, timesInRange}
-use Rattle.moment.proofs.Samples.{and-true}
+use Rattle.laws.proofs.Tests.{and-true}
 use Rattle.pass_set.specs.PassSet.{total, Sizes}
 use Rattle.stored.specs.Numbers.{littleEndian, lowBytes, timeBits, timeOf, numbersIn, written}
 use Rattle.stored.specs.Sets.{passesIn, countsIn, samplesIn, timesIn, freqsIn, sizedRight, bytesOf}

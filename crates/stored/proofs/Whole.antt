@@ -12,7 +12,7 @@ use lib.ListN.{length, drop, length-append}
 use lib.Seq.{sets}
 use borrow.Author.Tests.{ne-eqb, le-leb, lt-leb, lt-ltb, le-ltb, leb-true, eqb-true}
 use Rattle.moment.specs.Sample.{timesInRange}
-use Rattle.moment.proofs.Samples.{and-true}
+use Rattle.laws.proofs.Tests.{and-true}
 use Rattle.pass_set.specs.PassSet.{total, sizesAgree}
 use Rattle.stored.specs.Numbers.{lowBytes, timeBits, timeOf, numbersIn, written}
 use Rattle.stored.specs.Sets.{passesIn, countsIn, samplesIn, timesIn, freqsIn, sizedRight, loadRefusal, loaded, Loads, bytesOf, sizeOf, storeRefusal, stored, Stores}

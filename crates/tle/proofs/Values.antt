@@ -1,26 +1,20 @@
 -- A printed number, read back from its bytes, is the number; and each of its bytes is of its column's class. Assumes nothing.
 use mathlib.Core.Path.{_≡_, refl, sym, ap, _∙_, subst}
 use mathlib.Core.Logic.{_⊎_, inl, inr}
-use mathlib.Core.Bool.{Bool, true, false, not, _||_, cond}
+use mathlib.Core.Bool.{Bool, true, false, _||_, cond}
 use mathlib.Core.List.{List, [], _∷_, _++_}
 use Prim.Native.Nat.{ℕ, zero, suc, _+_, _-_, _*_, _/_, _%_, _^_, _≤_, _<_}
 use native.Mathlib.Nat.{mod-lt, mul-assoc, add-mul, pow-succ', pow-suc, div-add-mod', div-eq-of-lt, div-div-eq-div-mul, lt-of-lt-of-le}
 use native.Mathlib.Omega.{arith}
-use lib.Dec.{T, leb, ltb, eqb, lit<, eqb-refl, ltb→lt, nltb→le}
+use lib.Dec.{T, leb, ltb, eqb, lit<, eqb-refl}
 use lib.Arith.{mod-mul}
 use lib.Ieee.Fits.{and-i, and-l, and-r}
 use borrow.Author.Tests.{lt-ltb, le-ltb, le-leb, lt-leb, eq-eqb, ne-eqb, leb-false, ltb-false, eqb-false}
+use Rattle.laws.proofs.Numbers.{lt-or-ge}
 use Rattle.decimal.specs.Fixed.{digitAt, cellAt, fixedText}
 use Rattle.decimal.proofs.Round.{ten-pos}
 use Rattle.decimal.specs.Read.{isDigit}
 use Rattle.tle.specs.Printed.{Class, only, digit, admits, matchesBehind, exactly, readDigits}
-
-pub lt-or-ge : (a b : ℕ) → (a < b) ⊎ (b ≤ a)
-lt-or-ge a b = go (ltb a b) (ltb→lt a b) (nltb→le a b)
-  where
-    go : (t : Bool) → (T t → a < b) → (T (not t) → b ≤ a) → (a < b) ⊎ (b ≤ a)
-    go true p q = inl (p tt)
-    go false p q = inr (q tt)
 
 -- ---- reading one byte
 pub is-digit : (d : ℕ) → d < 10 → T (isDigit (d + 48))

@@ -4,7 +4,7 @@ use Prim.Native.Nat.{_≤_}
 use native.Mathlib.Omega.{arith}
 use lib.ListN.{length, drop-of-length-le}
 use lib.Seq.{drop-length}
-use Rattle.answer_lines.proofs.Laws.{rest}
+use Rattle.laws.proofs.Lists.{rest}
 use borrow.Author.Needs.{needs}
 use Rattle.answer_lines.proofs.after.Statement.{statement}
 use Rattle.answer_lines.proofs.after.Tie as tie

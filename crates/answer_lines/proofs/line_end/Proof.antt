@@ -4,7 +4,8 @@ use mathlib.Core.List.{List}
 use Prim.Native.Nat.{ℕ, _+_}
 use native.Mathlib.Omega.{arith}
 use Rattle.answer_lines.specs.Lines.{firstPlace}
-use Rattle.answer_lines.proofs.Laws.{rest, counted}
+use Rattle.laws.proofs.Lists.{rest}
+use Rattle.answer_lines.proofs.Laws.{counted}
 use borrow.Author.Needs.{needs}
 use Rattle.answer_lines.proofs.line_end.Statement.{statement}
 use Rattle.answer_lines.proofs.line_end.Tie as tie

@@ -5,7 +5,8 @@ use lib.ListN.{drop}
 use native.Mathlib.Omega.{arith}
 use borrow.Author.Tests.{eq-eqb, ne-eqb, not-true, not-false}
 use Rattle.rfc3339.specs.Rfc3339 as Rfc
-use Rattle.rfc3339.proofs.Stamps.{rest, in-day}
+use Rattle.laws.proofs.Lists.{rest}
+use Rattle.rfc3339.proofs.Stamps.{in-day}
 use borrow.Author.Needs.{needs}
 use Rattle.rfc3339.proofs.numoffset.Statement.{statement}
 use Rattle.rfc3339.proofs.numoffset.Tie as tie

@@ -6,7 +6,7 @@ use lib.Seq.{length-take-le}
 use borrow.Author.Tests.{eq-eqb, ne-eqb}
 use Rattle.passes.specs.Line as Spec
 use Rattle.passes.specs.Text as Text
-use Rattle.passes.proofs.Texts.{rest}
+use Rattle.laws.proofs.Lists.{rest}
 use borrow.Author.Needs.{needs}
 use Rattle.passes.proofs.line.header.Statement.{statement}
 use Rattle.passes.proofs.line.header.Tie as tie

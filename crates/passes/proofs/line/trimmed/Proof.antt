@@ -3,7 +3,7 @@ use mathlib.Core.Path.{ap, _∙_}
 use Prim.Native.Nat.{_+_}
 use borrow.Author.Tests.{eq-eqb, ne-eqb}
 use Rattle.passes.specs.Line as Spec
-use Rattle.passes.proofs.Texts.{rest}
+use Rattle.laws.proofs.Lists.{rest}
 use borrow.Author.Needs.{needs}
 use Rattle.passes.proofs.line.trimmed.Statement.{statement}
 use Rattle.passes.proofs.line.trimmed.Tie as tie
