@@ -1,7 +1,7 @@
 -- Bounds that survive rounding: what a whole number, a sum and a product of bounded numbers are at most, and from where to where a
 -- product lies. A bound goes through where its own rounding is known, which a numeral's is by computing. Assumes nothing.
 use mathlib.Core.Path.{_≡_, sym, ap, _∙_, subst}
-use mathlib.Core.Bool.{true≢false}
+use mathlib.Core.Bool.{true, false, true≢false}
 use Prim.Native.Nat.{ℕ, _+_, _*_, _^_, _≤_, _<_}
 use native.Mathlib.Nat.{le-trans, le-of-eq, mul-one, mul-assoc, mul-comm, mul-right-comm, mul-mul-mul-comm, mul-le-mul, mul-le-mul-right, mul-pos, add-mul, add-le-add}
 use native.Mathlib.Omega.{arith}
