@@ -5,8 +5,8 @@ use native.Mathlib.Omega.{arith}
 use lib.ListN.{length}
 use borrow.Author.Needs.{needs}
 use Rattle.io.proofs.Counting.{counts}
-use Rattle.fit_passes.proofs.files.read_all.Statement.{statement}
-use Rattle.fit_passes.proofs.files.read_all.Tie as tie
+use Rattle.pass_files.proofs.read_all.Statement.{statement}
+use Rattle.pass_files.proofs.read_all.Tie as tie
 
 abbrev Inv-loop : tie.InvT-loop
 Inv-loop fd buf₀ at₀ buf at = (at ≤ length buf) × (length buf ≡ length buf₀)

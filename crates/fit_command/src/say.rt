@@ -1,6 +1,8 @@
-// What the command says on standard error.
+// What the command says on standard error. `report_text` and `command` decide what it is; here it is written.
 use command::report;
 use command::report::Biases;
+use command::words;
+use frame::Vec3;
 use libc::STDERR_FILENO;
 
 fn write(text: &[u8]) {
@@ -8,22 +10,50 @@ fn write(text: &[u8]) {
 }
 
 pub fn usage() {
-    write(b"usage: fit_passes X Y Z INCLINATION FILE..\n");
+    write(b"usage: fit-passes [--as-received] X Y Z INCLINATION FILE..\n");
     write(
         b"X Y Z: the mast's Earth-fixed position in metres; INCLINATION: a first guess in degrees; FILE..: 1 to 16 pass files\n",
+    );
+    write(
+        b"--as-received: frequencies fall as the satellite goes by, as a receiver hears them\n",
+    );
+}
+
+pub fn received() {
+    write(
+        b"frequencies as received (falling): each is mirrored at its file's centre\n",
+    );
+}
+
+pub fn as_predicted() {
+    write(
+        b"frequencies as the fit predicts them (rising); use --as-received if they fall\n",
+    );
+}
+
+// A mast that is not near the ground.
+pub fn position(v: Vec3) {
+    if words::is_off_ground(v) {
+        write(
+            b"warning: the position is less than 6300 km or more than 6500 km from the Earth's centre (latitude and longitude?)\n",
+        );
+    }
+}
+
+pub fn name_unprintable() {
+    write(
+        b"fit-passes: refusal 11: the name is over 24 bytes or has a byte outside 32 to 126\n",
+    );
+}
+
+pub fn orbit_unprintable() {
+    write(
+        b"fit-passes: refusal 11: the orbit cannot be printed: a number is not finite, or the radius is outside 6500 to 20000 km\n",
     );
 }
 
 pub fn too_many() {
-    write(b"fit_passes: more than 16 files\n");
-}
-
-// A message about one file.
-pub fn file(path: &[u8], what: &[u8]) {
-    write(path);
-    write(b": ");
-    write(what);
-    write(b"\n");
+    write(b"fit-passes: more than 16 files\n");
 }
 
 // The sentence of a refusal: of a file, of the fit's input, or of its work.
@@ -83,17 +113,7 @@ fn numbered(k: u32) {
 }
 
 pub fn refusal(k: u32) {
-    write(b"fit_passes: ");
-    numbered(k);
-}
-
-// Why a file was refused; of 0, nothing.
-pub fn file_refusal(path: &[u8], k: u32) {
-    if k == 0 {
-        return;
-    }
-    write(path);
-    write(b": ");
+    write(b"fit-passes: ");
     numbered(k);
 }
 
@@ -108,7 +128,7 @@ fn word_name(k: usize) {
 
 // A message about one of the first four words.
 fn word(k: usize, what: &[u8]) {
-    write(b"fit_passes: ");
+    write(b"fit-passes: ");
     word_name(k);
     write(b" ");
     write(what);
@@ -187,28 +207,76 @@ pub fn fit(trials: usize, best: f64, rms: f64, samples: usize, passes: usize) {
     line(b"root-mean-square residual of the samples: ", rms, b" Hz\n");
 }
 
-// The biases of file k of the command, if it has samples.
-fn pass(k: usize, b: Biases) {
+// What is to be corrected: the orbit passes a sample's place dt seconds after the moment that the recording gives it, so a positive
+// dt is a slow clock.
+fn clock(dt: f64) {
+    write(b": its clock is ");
+    number(float::abs(dt));
+    if dt < 0.0 {
+        write(b" s fast (take it from the times)");
+        return;
+    }
+    write(b" s slow (add it to the times)");
+}
+
+fn offset(df: f64) {
+    write(b", its frequencies are ");
+    number(float::abs(df));
+    if df < 0.0 {
+        write(b" Hz low (add it to them)");
+        return;
+    }
+    write(b" Hz high (take it from them)");
+}
+
+// The name of a file by its word.
+fn file_name(i: usize) {
+    let mut path = io::buffer();
+    let n = os::arg(i, &mut path);
+    write(&path[..n]);
+}
+
+// The biases of the file of word i, if it has samples.
+fn pass(i: usize, b: Biases) {
     if !b.sampled {
         return;
     }
-    write(b"file ");
-    io::print_decimal(STDERR_FILENO, k as u64);
-    line(b": time off by ", b.dt, b" s, frequency off by ");
-    line(b"", b.df, b" Hz, drifting by ");
-    line(b"", b.df1 * 1000.0, b" mHz/s and ");
+    file_name(i);
+    clock(b.dt);
+    offset(b.df);
+    line(b", rising by ", b.df1 * 1000.0, b" mHz/s and ");
     line(b"", b.df2 * 1000000.0, b" uHz/s^2\n");
 }
 
-// Those of each file.
-pub fn biases(counts: &[u32], dts: &[f64], dfs: &[f64], df1s: &[f64], df2s: &[f64]) {
-    for p in 0..counts.len() {
-        pass(p + 1, report::biases_of(counts, p, dts, dfs, df1s, df2s));
+// What is off in recorded frequencies is off the other way in mirrored ones.
+fn turned(first: usize, b: Biases) -> Biases {
+    if first < 6 {
+        return b;
+    }
+    Biases {
+        sampled: b.sampled,
+        dt: b.dt,
+        df: -b.df,
+        df1: -b.df1,
+        df2: -b.df2,
     }
 }
 
-// The lines were refused after a fit.
-pub fn lines_refusal(k: u32) {
-    write(b"fit_passes: the orbit was fitted, but not printed\n");
-    refusal(k);
+// Those of each file, by time; the files' words begin at `first`.
+pub fn biases(
+    first: usize,
+    order: &[usize],
+    counts: &[u32],
+    dts: &[f64],
+    dfs: &[f64],
+    df1s: &[f64],
+    df2s: &[f64],
+) {
+    for p in 0..order.len() {
+        let i = order[p];
+        let b = report::biases_of(counts, p, dts, dfs, df1s, df2s);
+        if i < 16 {
+            pass(i + first % 16, turned(first, b));
+        }
+    }
 }

@@ -2,8 +2,8 @@
 use mathlib.Core.Path.{_≡_, sym}
 use Prim.Native.Nat.{ℕ}
 use lib.ListN.{length, replicate, length-replicate}
-use Rattle.fit_passes.proofs.files.buffer.Statement.{statement}
-use Rattle.fit_passes.proofs.files.buffer.Tie as tie
+use Rattle.pass_files.proofs.buffer.Statement.{statement}
+use Rattle.pass_files.proofs.buffer.Tie as tie
 
 sized : (n a : ℕ) → n ≡ length (replicate n a)
 sized n a = sym (length-replicate n a)

@@ -7,16 +7,16 @@ use lib.ListN.{length}
 use borrow.Author.Needs.{needs}
 use Rattle.command.specs.Gather.{arrays, Gathers}
 use Rattle.command.proofs.Sets.{none-yet, ended-early, all-files}
-use Rattle.fit_passes.proofs.files.gather_files.Statement.{statement}
-use Rattle.fit_passes.proofs.files.gather_files.Tie as tie
+use Rattle.pass_files.proofs.gather_files.Statement.{statement}
+use Rattle.pass_files.proofs.gather_files.Tie as tie
 
 abbrev Inv-loop : tie.InvT-loop
-Inv-loop n counts₀ times₀ freqs₀ centers₀ name₀ g₀ i₀ counts times freqs centers name g i =
+Inv-loop first n counts₀ times₀ freqs₀ centers₀ name₀ g₀ i₀ counts times freqs centers name g i =
     (i ≤ n) × (length counts ≡ length counts₀) × (length times ≡ length times₀) × (length freqs ≡ length freqs₀) × (length centers ≡ length centers₀) × (length name ≡ length name₀)
     × (g .failed ≡ false) × Gathers i g (arrays counts times freqs centers name)
 
 abbrev μ-loop : tie.MeasureT-loop
-μ-loop n counts₀ times₀ freqs₀ centers₀ name₀ g₀ i₀ counts times freqs centers name g i = n - i
+μ-loop first n counts₀ times₀ freqs₀ centers₀ name₀ g₀ i₀ counts times freqs centers name g i = n - i
 
 loop-holds : tie.Need-loop-holds Inv-loop μ-loop
 loop-holds c =
@@ -29,6 +29,12 @@ returns c =
     let l = w .before .before .before .before .before .before in
     let i = l .before .loop .inv in
     ended-early (w .add-word .ensures .next _ (i .6) (i .7)) (omega (arith, l .loop-test .taken)) (c .if1 .taken)
+
+add-i : tie.Need-add-i Inv-loop μ-loop
+add-i c = let l = c .before .before .before .before .before .before .before .before .before .before .before .before .before .before .before .before in record { fits = omega (arith, l .loop-test .taken, l .before .before .before .before .before .before .before .before .before .before .pre .0) }
+
+loop-less : tie.Need-loop-less Inv-loop μ-loop
+loop-less c = let l = c .before .before .before .before .before .before .before .before .before .before .before .before .before .before .before .before in omega (arith, l .loop-test .taken)
 
 loop-again : tie.Need-loop-again Inv-loop μ-loop
 loop-again c =
@@ -56,8 +62,8 @@ gather-files-spec =
     (λ c. search needs)
     (λ c. search needs)
     returns
-    (λ c. search needs)
-    (λ c. search needs)
+    add-i
+    loop-less
     loop-again
     (λ c. search needs)
     (λ c. search needs)

@@ -1,10 +1,12 @@
-// The files that the command names: each is opened, read and closed, and `command::gather` adds it to the pass set.
+// The files that the command names: each is opened, read and closed, and `command::gather` adds it to the pass set. What is wrong with
+// one is told on standard error.
+mod say;
+
 ghost use mathlib.Core.Path.{_≡_};
 ghost use Prim.Native.Nat.{_≤_};
 ghost use lib.ListN.{length};
 ghost use Rattle.io.specs.Counts.{Counts};
 ghost use Rattle.command.specs.Gather.{arrays, Continues, Gathers};
-use crate::say;
 use command::gather;
 use command::gather::Gathered;
 
@@ -98,7 +100,7 @@ fn add_content(
     }
     let n = c.size;
     let r = gather::add(&bytes[..n], g, counts, times, freqs, centers, name);
-    say::file_refusal(path, r.refusal);
+    say::lines(path, &bytes[..n], r.refusal);
     r
 }
 
@@ -113,7 +115,7 @@ fn open_word(i: usize, path: &mut [u8]) -> Opened
 {
     let length = os::arg(i, path);
     if os::errno() != 0 {
-        os::fail(b"fit_passes: a file's name");
+        os::fail(b"fit-passes: a file's name");
         return Opened { fd: -1, length: 0 };
     }
     let fd = os::open_read(&path[..length]);
@@ -148,9 +150,10 @@ fn add_word(
     r
 }
 
-// All n files, from the sixth word on, in their order; none after one that fails. What a file holds no contract can say: there are
-// some n contents of which the arrays hold the set. `main` meets the `requires` by proof.
+// The n files from word `first` on, in their order; none after one that fails. What a file holds no contract can say: there are
+// some n contents of which the arrays hold the set. `fit_command` meets the `requires` by proof.
 pub fn gather_files(
+    first: usize,
     n: usize,
     counts: &mut [u32],
     times: &mut [i64],
@@ -158,12 +161,12 @@ pub fn gather_files(
     centers: &mut [f64],
     name: &mut [u8],
 ) -> Gathered
-    requires { ⌜ n ≤ 16 ⌝ }
+    requires { ⌜ (n ≤ 16) × (first ≤ 6) ⌝ }
     ensures { λ r. ⌜ Gathers n r (arrays (now (counts .exit)) (now (times .exit)) (now (freqs .exit)) (now (centers .exit)) (now (name .exit))) ⌝ }
 {
     let mut g = gather::no_files(name);
     for i in 0..n {
-        g = add_word(i + 5, g, counts, times, freqs, centers, name);
+        g = add_word(i + first, g, counts, times, freqs, centers, name);
         if g.failed {
             return g;
         }
