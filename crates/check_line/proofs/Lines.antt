@@ -1,19 +1,19 @@
 -- A line has room: a name is a part of its file. Assumes nothing.
 use mathlib.Core.Path.{_≡_, sym, ap, _∙_}
 use mathlib.Core.Bool.{Bool, true, false, cond}
-use mathlib.Core.List.{List, _++_}
-use Prim.Native.Nat.{ℕ, _+_, _-_, _≤_, min}
+use mathlib.Core.List.{List}
+use Prim.Native.Nat.{ℕ, _+_, _-_, _≤_}
 use native.Mathlib.Nat.{min-eq-left, min-le-left, min-le-right, zero-add}
 use native.Mathlib.Omega.{arith}
 use lib.Dec.{eqb, ltb}
 use lib.ListN.{length, take, drop, length-append, length-take, length-drop}
 use lib.Seq.{take-all, length-take-le, length-sets}
 use Rattle.text.specs.Text.{bytes}
-use Rattle.append.specs.Append.{Appends, numeral}
+use Rattle.append.specs.Append.{Appends}
 use Rattle.append.proofs.Appending.{called, numeral-length}
 use Rattle.passes.specs.File as File
 use Rattle.passes.specs.declared.file.PassFile.{PassFile}
-use Rattle.check_line.specs.Check.{nameShown, acceptedLine, refusedLine, answerLine, fileLine, checkLine, Checks}
+use Rattle.check_line.specs.Check.{nameShown, acceptedLine, refusedLine, fileLine, checkLine, Checks}
 
 pub seen : (file : List ℕ) (r : PassFile) {p o q : List ℕ} {i n : ℕ} → r .«name_seen» ≡ true → p ≡ File.nameOf file r → Appends p i o q n
     → Appends (nameShown file r) i o q n

@@ -4,8 +4,8 @@ ghost use lib.ListN.{length};
 ghost use Rattle.pass_set.specs.PassSet.{Sizes};
 use crate::say;
 use command::report;
+use command::report::Biases;
 use determination::Determination;
-use fit::Fit;
 use frame::Vec3;
 use libc::STDOUT_FILENO;
 use solution::SolvedOrbit;
@@ -32,6 +32,56 @@ fn lines_refused(k: u32, orbit: SolvedOrbit) {
         return;
     }
     say::refusal(k);
+}
+
+// What is off in recorded frequencies is off the other way in mirrored ones.
+fn turned(received: bool, b: Biases) -> Biases {
+    if !received {
+        return b;
+    }
+    Biases {
+        sampled: b.sampled,
+        dt: b.dt,
+        df: -b.df,
+        df1: -b.df1,
+        df2: -b.df2,
+    }
+}
+
+// The word of file i, the first being word `first`.
+fn word_of(i: usize, first: usize) -> usize {
+    if 16 < i {
+        return 0;
+    }
+    if 6 < first {
+        return 0;
+    }
+    i + first
+}
+
+// The biases of each file, by time.
+fn biases(
+    first: usize,
+    order: &[usize],
+    counts: &[u32],
+    dts: &[f64],
+    dfs: &[f64],
+    df1s: &[f64],
+    df2s: &[f64],
+) {
+    for p in 0..order.len() {
+        let b = report::biases_of(counts, p, dts, dfs, df1s, df2s);
+        say::pass(word_of(order[p], first), turned(received(first), b));
+    }
+}
+
+// With over 16 passes nothing is told; the fit takes no more.
+fn tell_noise(rms: f64, counts: &[u32], times: &[i64], freqs: &[f64]) {
+    if 16 < counts.len() {
+        return;
+    }
+    let full = arguments::non_empty(counts);
+    say::noise(rms, noise::estimate(counts, times, freqs), full.passes);
 }
 
 // The report of an accepted fit, or why there is none.
@@ -73,7 +123,8 @@ fn report(
         df2s,
     );
     say::fit(f.trials, f.best, rms, times.len(), counts.len());
-    say::biases(first, order, counts, dts, dfs, df1s, df2s);
+    tell_noise(rms, counts, times, freqs);
+    biases(first, order, counts, dts, dfs, df1s, df2s);
 }
 
 // Fits the set, writes what `outcome` says to standard output, and tells of it. `fit_files` meets the `requires` by proof.

@@ -35,6 +35,9 @@ fn fit_files(first: usize, n: usize, rec_ecef: Vec3, initial_i: f64)
     let s = g.samples;
     let kept = g.name;
     let size = kept.size;
+    if size == 0 {
+        say::empty_name();
+    }
     fitting::fit(
         first,
         &counts[..p],

@@ -1,12 +1,20 @@
-// What the command says on standard error. `report_text` and `command` decide what it is; here it is written.
-use command::report;
+// What the command says on standard error: `report_text` makes the report's lines, and here they are written.
 use command::report::Biases;
 use command::words;
 use frame::Vec3;
 use libc::STDERR_FILENO;
+use report_text::fitted;
+use report_text::refused;
 
 fn write(text: &[u8]) {
     io::write_all(STDERR_FILENO, text);
+}
+
+// The first n bytes.
+fn flush(text: &[u8], n: usize) {
+    if n <= text.len() {
+        write(&text[..n]);
+    }
 }
 
 pub fn usage() {
@@ -15,19 +23,23 @@ pub fn usage() {
         b"X Y Z: the mast's Earth-fixed position in metres; INCLINATION: a first guess in degrees; FILE..: 1 to 16 pass files\n",
     );
     write(
-        b"--as-received: frequencies fall as the satellite goes by, as a receiver hears them\n",
+        b"--as-received: the frequencies fall as the satellite goes by, as a receiver hears them\n",
     );
+}
+
+pub fn too_many() {
+    write(b"fit_passes: more than 16 files\n");
 }
 
 pub fn received() {
     write(
-        b"frequencies as received (falling): each is mirrored at its file's centre\n",
+        b"frequencies as received, falling: each is mirrored at its file's centre (--as-received)\n",
     );
 }
 
 pub fn as_predicted() {
     write(
-        b"frequencies as the fit predicts them (rising); use --as-received if they fall\n",
+        b"frequencies as the fit predicts them, rising; give --as-received first if they fall\n",
     );
 }
 
@@ -40,81 +52,8 @@ pub fn position(v: Vec3) {
     }
 }
 
-pub fn name_unprintable() {
-    write(
-        b"fit-passes: refusal 11: the name is over 24 bytes or has a byte outside 32 to 126\n",
-    );
-}
-
-pub fn orbit_unprintable() {
-    write(
-        b"fit-passes: refusal 11: the orbit cannot be printed: a number is not finite, or the radius is outside 6500 to 20000 km\n",
-    );
-}
-
-pub fn too_many() {
-    write(b"fit-passes: more than 16 files\n");
-}
-
-// The sentence of a refusal: of a file, of the fit's input, or of its work.
-fn file_sentence(k: u32) {
-    match k {
-        1 => write(b"a byte above 127"),
-        2 => write(b"a line of more than 256 bytes"),
-        3 => write(b"a number of more than 19 digits, or with an exponent outside -30 to 30"),
-        4 => write(b"a moment outside 1957 to 2056"),
-        5 => write(b"more than 16 passes or 4096 samples"),
-        _ => write(b"refused"),
-    }
-}
-
-fn input_sentence(k: u32) {
-    match k {
-        6 => write(b"the mast's position or the inclination is not a number"),
-        7 => write(b"the inclination is outside 0 to 180 degrees"),
-        8 => write(b"a sample's frequency is not a number"),
-        9 => write(b"fewer than two passes have samples"),
-        10 => write(b"fewer samples than four and one for each pass that has any"),
-        _ => write(b"refused"),
-    }
-}
-
-fn work_sentence(k: u32) {
-    match k {
-        11 => write(
-            b"the orbit cannot be printed, or the name is over 24 bytes or has a byte outside 32 to 126",
-        ),
-        21 => write(b"too little memory was lent"),
-        23 => write(b"a moment of a prediction lies over 8000000000000 s from 1970"),
-        24 => write(b"no orbit fits: the best sum is above 1e11, or no trial gave one"),
-        25 => write(b"a pass's frequency offset exceeds 500 kHz"),
-        _ => write(b"refused"),
-    }
-}
-
-fn sentence(k: u32) {
-    if k < 6 {
-        file_sentence(k);
-        return;
-    }
-    if k < 11 {
-        input_sentence(k);
-        return;
-    }
-    work_sentence(k);
-}
-
-fn numbered(k: u32) {
-    write(b"refusal ");
-    io::print_decimal(STDERR_FILENO, k as u64);
-    write(b": ");
-    sentence(k);
-    write(b"\n");
-}
-
-pub fn refusal(k: u32) {
-    write(b"fit-passes: ");
-    numbered(k);
+pub fn empty_name() {
+    write(b"warning: the name is empty\n");
 }
 
 fn word_name(k: usize) {
@@ -126,9 +65,9 @@ fn word_name(k: usize) {
     }
 }
 
-// A message about one of the first four words.
+// A message about one of the four numbers.
 fn word(k: usize, what: &[u8]) {
-    write(b"fit-passes: ");
+    write(b"fit_passes: ");
     word_name(k);
     write(b" ");
     write(what);
@@ -146,137 +85,75 @@ pub fn long_number(k: usize) {
     );
 }
 
-// n in six digits.
-fn six(n: u64) {
-    if n < 100000 {
-        write(b"0");
-    }
-    if n < 10000 {
-        write(b"0");
-    }
-    if n < 1000 {
-        write(b"0");
-    }
-    if n < 100 {
-        write(b"0");
-    }
-    if n < 10 {
-        write(b"0");
-    }
-    io::print_decimal(STDERR_FILENO, n);
+pub fn refusal(k: u32) {
+    let mut text = [0u8; 256];
+    let n = refused::refusal(k, &mut text, 0);
+    flush(&text, n);
 }
 
-fn sign(v: f64) {
-    if v < 0.0 {
-        write(b"-");
-    }
+pub fn name_unprintable() {
+    write(
+        b"fit_passes: refusal 11: the name is over 24 bytes or has a byte outside 32 to 126\n",
+    );
 }
 
-// A number to a millionth. NaN and what is too large for that are said so.
-fn number(v: f64) {
-    if v != v {
-        write(b"not a number");
-        return;
-    }
-    if float::abs(v) > 1e12 {
-        write(b"over 1e12 in size");
-        return;
-    }
-    let n = report::units(v, 1e6);
-    sign(v);
-    io::print_decimal(STDERR_FILENO, n / 1000000);
-    write(b".");
-    six(n % 1000000);
-}
-
-fn line(what: &[u8], v: f64, unit: &[u8]) {
-    write(what);
-    number(v);
-    write(unit);
+pub fn orbit_unprintable() {
+    write(
+        b"fit_passes: refusal 11: the orbit cannot be printed: a number is not finite, or the radius is outside 6500 to 20000 km\n",
+    );
 }
 
 // The whole fit.
 pub fn fit(trials: usize, best: f64, rms: f64, samples: usize, passes: usize) {
-    write(b"trials: ");
-    io::print_decimal(STDERR_FILENO, trials as u64);
-    write(b"\nsamples: ");
-    io::print_decimal(STDERR_FILENO, samples as u64);
-    write(b" in ");
-    io::print_decimal(STDERR_FILENO, passes as u64);
-    line(b" files\nbest sum, with penalties: ", best, b" Hz^2\n");
-    line(b"root-mean-square residual of the samples: ", rms, b" Hz\n");
+    let mut text = [0u8; 512];
+    let n = fitted::fit(trials, best, rms, samples, passes, &mut text, 0);
+    flush(&text, n);
 }
 
-// What is to be corrected: the orbit passes a sample's place dt seconds after the moment that the recording gives it, so a positive
-// dt is a slow clock.
-fn clock(dt: f64) {
-    write(b": its clock is ");
-    number(float::abs(dt));
-    if dt < 0.0 {
-        write(b" s fast (take it from the times)");
-        return;
+// The residual beside the samples' own noise, for so many non-empty passes.
+pub fn noise(rms: f64, estimate: f64, passes: usize) {
+    let mut text = [0u8; 512];
+    let n = fitted::noise(
+        estimate,
+        noise::ratio(rms, estimate),
+        noise::verdict(rms, estimate, passes),
+        &mut text,
+        0,
+    );
+    flush(&text, n);
+}
+
+// The name of the file that word i gives, into the first places of out.
+fn file_name(i: usize, out: &mut [u8]) -> usize {
+    let n = os::arg(i, out);
+    if os::errno() != 0 {
+        return 0;
     }
-    write(b" s slow (add it to the times)");
+    n
 }
 
-fn offset(df: f64) {
-    write(b", its frequencies are ");
-    number(float::abs(df));
-    if df < 0.0 {
-        write(b" Hz low (add it to them)");
-        return;
-    }
-    write(b" Hz high (take it from them)");
-}
-
-// The name of a file by its word.
-fn file_name(i: usize) {
-    let mut path = io::buffer();
-    let n = os::arg(i, &mut path);
-    write(&path[..n]);
+fn pass_line(name: &[u8], b: Biases) {
+    let mut text = [0u8; 4608];
+    let n = fitted::pass(name, b.dt, b.df, b.df1, b.df2, &mut text, 0);
+    flush(&text, n);
 }
 
 // The biases of the file of word i, if it has samples.
-fn pass(i: usize, b: Biases) {
+pub fn pass(i: usize, b: Biases) {
     if !b.sampled {
         return;
     }
-    file_name(i);
-    clock(b.dt);
-    offset(b.df);
-    line(b", rising by ", b.df1 * 1000.0, b" mHz/s and ");
-    line(b"", b.df2 * 1000000.0, b" uHz/s^2\n");
-}
-
-// What is off in recorded frequencies is off the other way in mirrored ones.
-fn turned(first: usize, b: Biases) -> Biases {
-    if first < 6 {
-        return b;
-    }
-    Biases {
-        sampled: b.sampled,
-        dt: b.dt,
-        df: -b.df,
-        df1: -b.df1,
-        df2: -b.df2,
+    let mut path = io::buffer();
+    let n = file_name(i, &mut path);
+    if n <= path.len() {
+        pass_line(&path[..n], b);
     }
 }
 
-// Those of each file, by time; the files' words begin at `first`.
-pub fn biases(
-    first: usize,
-    order: &[usize],
-    counts: &[u32],
-    dts: &[f64],
-    dfs: &[f64],
-    df1s: &[f64],
-    df2s: &[f64],
-) {
-    for p in 0..order.len() {
-        let i = order[p];
-        let b = report::biases_of(counts, p, dts, dfs, df1s, df2s);
-        if i < 16 {
-            pass(i + first % 16, turned(first, b));
-        }
-    }
+// A message about the file of word i.
+pub fn file(i: usize, what: &[u8]) {
+    let mut path = io::buffer();
+    let n = file_name(i, &mut path);
+    flush(&path, n);
+    write(what);
 }

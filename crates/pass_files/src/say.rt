@@ -14,33 +14,17 @@ pub fn file(path: &[u8], what: &[u8]) {
     write(b"\n");
 }
 
-fn sentence(k: u32) {
-    match k {
-        1 => write(b"a byte above 127"),
-        2 => write(b"a line of more than 256 bytes"),
-        3 => write(b"a number of more than 19 digits, or with an exponent outside -30 to 30"),
-        4 => write(b"a moment outside 1957 to 2056"),
-        5 => write(b"with it there are more than 16 passes or 4096 samples"),
-        _ => write(b"refused"),
+// The first n bytes.
+fn flush(text: &[u8], n: usize) {
+    if n <= text.len() {
+        write(&text[..n]);
     }
-}
-
-fn at_line(line: usize) {
-    if line == 0 {
-        return;
-    }
-    write(b", line ");
-    io::print_decimal(STDERR_FILENO, line as u64);
 }
 
 fn refused(path: &[u8], k: u32, line: usize) {
-    write(path);
-    at_line(line);
-    write(b": refusal ");
-    io::print_decimal(STDERR_FILENO, k as u64);
-    write(b": ");
-    sentence(k);
-    write(b"\n");
+    let mut text = [0u8; 4608];
+    let n = report_text::refused::file_refusal(path, line, k, &mut text, 0);
+    flush(&text, n);
 }
 
 fn all_or_some(t: Tally) {

@@ -1,4 +1,3 @@
-use lib.ListN.{length}
 use borrow.Author.Needs.{needs}
 use Rattle.append.proofs.Appending.{no-room, one}
 use Rattle.append.proofs.byte.Statement.{statement}

@@ -1,4 +1,3 @@
-use mathlib.Core.Path.{_≡_}
 use borrow.Author.Needs.{needs}
 use Rattle.append.proofs.Appending.{has-digit, no-digit}
 use Rattle.append.proofs.leading.Statement.{statement}

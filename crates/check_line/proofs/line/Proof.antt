@@ -1,4 +1,3 @@
-use mathlib.Core.Path.{_≡_}
 use borrow.Author.Needs.{needs}
 use Rattle.check_line.proofs.line.Statement.{statement}
 use Rattle.check_line.proofs.line.Tie as tie
