@@ -36,7 +36,8 @@ pub fn text(text: &[u8], out: &mut [u8], at: usize) -> usize
     nothing(out, next)
 }
 
-fn digit(n: u64, i: usize) -> u8
+// The digit of n at 10^i.
+pub fn digit(n: u64, i: usize) -> u8
     requires { ⌜ i < 20 ⌝ }
     ensures { λ r. ⌜ r ≡ digitAt n i ⌝ }
 {

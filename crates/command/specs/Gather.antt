@@ -8,6 +8,7 @@ use lib.Dec.{leb, ltb, eqb}
 use lib.IntN.{ℤ}
 use lib.Ieee.{Float}
 use lib.ListN.{length, take}
+use Rattle.text.specs.Text.{bytes}
 use Rattle.refusal.specs.Numbers as refusal
 use Rattle.loops.specs.Loop.{isSome}
 use Rattle.pass_set.specs.PassSet.{total}
@@ -49,9 +50,8 @@ keyIn file = firstKey (timesIn file)
 unfoldable pub namer : List (List ℕ) → Option (List ℕ)
 namer files = pick keyIn hasName (sortOn keyIn files)
 
--- UNKNOWN
 abbrev pub unknown : List ℕ
-unknown = 85 ∷ 78 ∷ 75 ∷ 78 ∷ 79 ∷ 87 ∷ 78 ∷ []
+unknown = bytes "UNKNOWN"
 
 -- the name to print, and where its file belongs
 abbrev pub nameFrom : Option (List ℕ) → List ℕ

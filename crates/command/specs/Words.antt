@@ -1,10 +1,15 @@
 -- What the command's words say.
 use Prim.Native.Nat.{ℕ, _-_}
-use mathlib.Core.Bool.{cond}
+use mathlib.Core.Bool.{Bool, cond, _||_}
 use mathlib.Core.List.{List}
 use lib.Dec.{ltb}
-use lib.Ieee.{Float}
-use Rattle.float.specs.Ops.{radiansOf}
+use mathlib.Core.Path.{_≡_, refl}
+use lib.Ieee.{Float, lt, ofBits, round}
+use Rattle.text.specs.Text.{bytes}
+use Rattle.roots.specs.Root.{sqrtOf}
+use Rattle.float.specs.Constant.{decimal}
+use Rattle.float.specs.Ops.{_⊕_, _⊗_, bits, radiansOf}
+use Rattle.frame.specs.declared.Vec3.{Vec3}
 use Rattle.decimal.specs.Read.{number}
 use Rattle.decimal.specs.declared.read.Number.{Number}
 use Rattle.decimal.specs.declared.read.Number.the-variants.{Nothing, Value, Refused}
@@ -12,6 +17,31 @@ use Rattle.command.specs.declared.words.Files.{Files}
 use Rattle.command.specs.declared.words.Files.the-variants.{TooFew, TooMany, Named}
 use Rattle.command.specs.declared.words.Mast.{Mast}
 use Rattle.command.specs.declared.words.Mast.the-variants.{At, NoNumber, LongNumber}
+
+abbrev pub asReceived : List ℕ
+asReceived = bytes "--as-received"
+
+-- 6,300 km and 6,500 km
+unfoldable pub nearest : Float
+nearest = decimal 6300000 0
+
+pub nearest-bits : bits 0x4158085800000000 ≡ nearest
+unfolding nearest ofBits round
+nearest-bits = refl
+
+unfoldable pub farthest : Float
+farthest = decimal 6500000 0
+
+pub farthest-bits : bits 0x4158cba800000000 ≡ farthest
+unfolding farthest ofBits round
+farthest-bits = refl
+
+-- how far from the Earth's centre a mast is not on the ground, by its Earth-fixed metres
+abbrev pub distanceOf : Vec3 → Float
+distanceOf v = sqrtOf ((v .x ⊗ v .x ⊕ v .y ⊗ v .y) ⊕ v .z ⊗ v .z)
+
+unfoldable pub offGround : Vec3 → Bool
+offGround v = lt (distanceOf v) nearest || lt farthest (distanceOf v)
 
 -- the program's name and four numbers, then 1 to 16 files
 unfoldable pub filesOf : ℕ → Files

@@ -1,9 +1,28 @@
-// The command's words: three Earth-fixed metres, an inclination in degrees, then 1 to 16 file names.
+// The command's words: maybe --as-received, then three Earth-fixed metres, an inclination in degrees, then 1 to 16 file names.
 ghost use mathlib.Core.Path.{_≡_};
-ghost use Rattle.command.specs.Words.{filesOf, mastOf, xOf, yOf, zOf, inclinationOf};
+ghost use Rattle.decimal.specs.Read.{spells};
+ghost use Rattle.command.specs.Words.{asReceived, offGround, filesOf, mastOf, xOf, yOf, zOf, inclinationOf};
 use decimal::read;
 use decimal::read::Number;
 use frame::Vec3;
+
+// The word that says that frequencies are as a receiver hears them, in any case of its letters.
+pub fn is_as_received(w: &[u8]) -> bool
+    ensures { λ r. ⌜ r ≡ spells (now (w .entry)) asReceived ⌝ }
+{
+    read::spells(w, b"--as-received")
+}
+
+// A mast that is not near the ground.
+pub fn is_off_ground(v: Vec3) -> bool
+    ensures { λ r. ⌜ r ≡ offGround v ⌝ }
+{
+    let d = roots::sqrt(v.x * v.x + v.y * v.y + v.z * v.z);
+    if d < 6300e3 {
+        return true;
+    }
+    6500e3 < d
+}
 
 // How many files are named.
 pub enum Files {

@@ -1,0 +1,197 @@
+// The fit, and what comes of it.
+ghost use Prim.Native.Nat.{_≤_};
+ghost use lib.ListN.{length};
+ghost use Rattle.pass_set.specs.PassSet.{Sizes};
+use crate::say;
+use command::report;
+use command::report::Biases;
+use determination::Determination;
+use frame::Vec3;
+use libc::STDOUT_FILENO;
+use solution::SolvedOrbit;
+
+// Whether frequencies are as received, by the word before which the first file's stands.
+fn received(first: usize) -> bool {
+    first == 6
+}
+
+// Which of orbit and name cannot be printed: an orbit that can be under another name is not at fault.
+fn unprintable(orbit: SolvedOrbit) {
+    let mut text = [0u8; 256];
+    let c = tle::format_tle_catalog(b"HERD-1", orbit, &mut text);
+    if c.refusal == 0 {
+        say::name_unprintable();
+        return;
+    }
+    say::orbit_unprintable();
+}
+
+fn lines_refused(k: u32, orbit: SolvedOrbit) {
+    if k == refusal::UNPRINTABLE {
+        unprintable(orbit);
+        return;
+    }
+    say::refusal(k);
+}
+
+// What is off in recorded frequencies is off the other way in mirrored ones.
+fn turned(received: bool, b: Biases) -> Biases {
+    if !received {
+        return b;
+    }
+    Biases {
+        sampled: b.sampled,
+        dt: b.dt,
+        df: -b.df,
+        df1: -b.df1,
+        df2: -b.df2,
+    }
+}
+
+// The word of file i, the first being word `first`.
+fn word_of(i: usize, first: usize) -> usize {
+    if 16 < i {
+        return 0;
+    }
+    if 6 < first {
+        return 0;
+    }
+    i + first
+}
+
+// The biases of each file, by time.
+fn biases(
+    first: usize,
+    order: &[usize],
+    counts: &[u32],
+    dts: &[f64],
+    dfs: &[f64],
+    df1s: &[f64],
+    df2s: &[f64],
+) {
+    for p in 0..order.len() {
+        let b = report::biases_of(counts, p, dts, dfs, df1s, df2s);
+        say::pass(word_of(order[p], first), turned(received(first), b));
+    }
+}
+
+// With over 16 passes nothing is told; the fit takes no more.
+fn tell_noise(rms: f64, counts: &[u32], times: &[i64], freqs: &[f64]) {
+    if 16 < counts.len() {
+        return;
+    }
+    let full = arguments::non_empty(counts);
+    say::noise(rms, noise::estimate(counts, times, freqs), full.passes);
+}
+
+// The report of an accepted fit, or why there is none.
+fn report(
+    first: usize,
+    order: &[usize],
+    d: Determination,
+    counts: &[u32],
+    times: &[i64],
+    freqs: &[f64],
+    centers: &[f64],
+    rec_ecef: Vec3,
+    dts: &[f64],
+    dfs: &[f64],
+    df1s: &[f64],
+    df2s: &[f64],
+) {
+    let f = d.fit;
+    if f.refusal != 0 {
+        say::refusal(f.refusal);
+        return;
+    }
+    let orbit = f.orbit;
+    let lines = d.lines;
+    if lines.refusal != 0 {
+        lines_refused(lines.refusal, orbit);
+        return;
+    }
+    let rms = report::rms(
+        counts,
+        times,
+        freqs,
+        centers,
+        rec_ecef,
+        orbit,
+        dts,
+        dfs,
+        df1s,
+        df2s,
+    );
+    say::fit(f.trials, f.best, rms, times.len(), counts.len());
+    tell_noise(rms, counts, times, freqs);
+    biases(first, order, counts, dts, dfs, df1s, df2s);
+}
+
+// Fits the set, writes what `outcome` says to standard output, and tells of it. `fit_files` meets the `requires` by proof.
+pub fn fit(
+    first: usize,
+    counts: &[u32],
+    times: &[i64],
+    freqs: &mut [f64],
+    centers: &[f64],
+    rec_ecef: Vec3,
+    initial_i: f64,
+    name: &[u8],
+)
+    requires { ⌜ (first ≤ 6) × Sizes (now counts) (length (now times)) (length (now freqs)) (length (now centers)) ⌝ }
+{
+    let p = counts.len();
+    let s = times.len();
+    let mut order = [0usize; 16];
+    let mut counts_out = [0u32; 16];
+    let mut times_out = [0i64; 4096];
+    let mut freqs_out = [0.0f64; 4096];
+    let mut centers_out = [0.0f64; 16];
+    let mut dts = [0.0f64; 16];
+    let mut dfs = [0.0f64; 16];
+    let mut df1s = [0.0f64; 16];
+    let mut df2s = [0.0f64; 16];
+    let mut log = [0.0f64; 150];
+    // What 16 passes and 4,096 samples need: (4096 + 3 * 16) * (5 + 4 * 16) + 20000.
+    let mut scratch = [0.0f64; 305936];
+    let mut text = [0u8; 256];
+    let d = outcome::outcome(
+        received(first),
+        counts,
+        times,
+        freqs,
+        centers,
+        rec_ecef,
+        initial_i,
+        &mut order[..p],
+        &mut counts_out[..p],
+        &mut times_out[..s],
+        &mut freqs_out[..s],
+        &mut centers_out[..p],
+        &mut dts,
+        &mut dfs,
+        &mut df1s,
+        &mut df2s,
+        &mut log,
+        &mut scratch,
+        name,
+        &mut text,
+    );
+    let lines = d.lines;
+    let n = lines.length;
+    io::write_all(STDOUT_FILENO, &text[..n]);
+    report(
+        first,
+        &order[..p],
+        d,
+        &counts_out[..p],
+        &times_out[..s],
+        &freqs_out[..s],
+        &centers_out[..p],
+        rec_ecef,
+        &dts,
+        &dfs,
+        &df1s,
+        &df2s,
+    );
+}

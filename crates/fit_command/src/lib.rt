@@ -1,0 +1,126 @@
+// The command: fits one circular orbit to the passes in the files that its words name, and writes its name line and element lines to
+// standard output. Everything else goes to standard error. `fit_passes` and `fit_passes_refused` are this on two sets of words.
+mod fitting;
+mod say;
+
+ghost use Prim.Native.Nat.{_≤_};
+ghost use Rattle.io.specs.Counts.{Counts};
+use command::words;
+use command::words::Files;
+use command::words::Mast;
+use frame::Vec3;
+
+// Gathers the files and fits.
+fn fit_files(first: usize, n: usize, rec_ecef: Vec3, initial_i: f64)
+    requires { ⌜ (n ≤ 16) × (first ≤ 6) ⌝ }
+{
+    let mut counts = [0u32; 16];
+    let mut times = [0i64; 4096];
+    let mut freqs = [0.0f64; 4096];
+    let mut centers = [0.0f64; 16];
+    let mut name = [0u8; 256];
+    let g = pass_files::gather_files(
+        first,
+        n,
+        &mut counts,
+        &mut times,
+        &mut freqs,
+        &mut centers,
+        &mut name,
+    );
+    if g.failed {
+        return;
+    }
+    let p = g.passes;
+    let s = g.samples;
+    let kept = g.name;
+    let size = kept.size;
+    if size == 0 {
+        say::empty_name();
+    }
+    fitting::fit(
+        first,
+        &counts[..p],
+        &times[..s],
+        &mut freqs[..s],
+        &centers[..p],
+        rec_ecef,
+        initial_i,
+        &name[..size],
+    );
+}
+
+// Word i into the first places of out.
+fn word(i: usize, out: &mut [u8]) -> usize
+    ensures { λ r. ⌜ Counts r (now (out .exit)) ⌝ }
+{
+    let n = os::arg(i, out);
+    if os::errno() != 0 {
+        return 0;
+    }
+    n
+}
+
+// The four numbers, from word k on.
+fn mast(k: usize) -> Mast
+    requires { ⌜ k ≤ 2 ⌝ }
+{
+    let mut x = [0u8; 64];
+    let mut y = [0u8; 64];
+    let mut z = [0u8; 64];
+    let mut i = [0u8; 64];
+    let nx = word(k, &mut x);
+    let ny = word(k + 1, &mut y);
+    let nz = word(k + 2, &mut z);
+    let ni = word(k + 3, &mut i);
+    words::mast_of(&x[..nx], &y[..ny], &z[..nz], &i[..ni])
+}
+
+// The mast's words, from word k on, then the n files.
+fn numbers(k: usize, n: usize)
+    requires { ⌜ (n ≤ 16) × (k ≤ 2) ⌝ }
+{
+    let m = mast(k);
+    match m {
+        Mast::At(rec_ecef, initial_i) => {
+            say::position(rec_ecef);
+            fit_files(k + 4, n, rec_ecef, initial_i);
+        }
+        Mast::NoNumber(k) => say::no_number(k),
+        Mast::LongNumber(k) => say::long_number(k),
+    }
+}
+
+// Of so many words, the program's name among them and `--as-received` not, of which the first number is word k.
+fn words_from(k: usize, count: usize)
+    requires { ⌜ k ≤ 2 ⌝ }
+{
+    let named = words::files_of(count);
+    match named {
+        Files::TooFew => say::usage(),
+        Files::TooMany => say::too_many(),
+        Files::Named(n) => numbers(k, n),
+    }
+}
+
+// Whether the first word says that frequencies are as received.
+fn as_received() -> bool {
+    let mut w = [0u8; 64];
+    let n = word(1, &mut w);
+    words::is_as_received(&w[..n])
+}
+
+pub fn run() {
+    let count = os::arg_count();
+    if count == 0 {
+        say::usage();
+        return;
+    }
+    if as_received() {
+        say::received();
+        words_from(2, count - 1);
+        return;
+    }
+    say::as_predicted();
+    words_from(1, count);
+}

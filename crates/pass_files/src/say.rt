@@ -1,0 +1,58 @@
+// What is said of a file on standard error.
+use libc::STDERR_FILENO;
+use survey::Tally;
+
+fn write(text: &[u8]) {
+    io::write_all(STDERR_FILENO, text);
+}
+
+// A message about one file.
+pub fn file(path: &[u8], what: &[u8]) {
+    write(path);
+    write(b": ");
+    write(what);
+    write(b"\n");
+}
+
+// The first n bytes.
+fn flush(text: &[u8], n: usize) {
+    if n <= text.len() {
+        write(&text[..n]);
+    }
+}
+
+fn refused(path: &[u8], k: u32, line: usize) {
+    let mut text = [0u8; 4608];
+    let n = report_text::refused::file_refusal(path, line, k, &mut text, 0);
+    flush(&text, n);
+}
+
+fn all_or_some(t: Tally) {
+    if t.used == 0 {
+        write(b"all ");
+    }
+    io::print_decimal(STDERR_FILENO, t.skipped as u64);
+}
+
+fn skipped(path: &[u8], t: Tally) {
+    if t.skipped == 0 {
+        return;
+    }
+    write(b"warning: ");
+    write(path);
+    write(b": skipped ");
+    all_or_some(t);
+    write(b" lines that are neither a header nor a sample, first line ");
+    io::print_decimal(STDERR_FILENO, t.first as u64);
+    write(b"\n");
+}
+
+// Of a file's lines, which was refused, by this number, or how many were skipped.
+pub fn lines(path: &[u8], file: &[u8], k: u32) {
+    let t = survey::survey(file);
+    if k != 0 {
+        refused(path, k, t.refused);
+        return;
+    }
+    skipped(path, t);
+}
