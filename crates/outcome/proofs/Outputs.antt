@@ -15,9 +15,9 @@ use Rattle.frame.specs.declared.Vec3.{Vec3}
 use Rattle.solution.specs.declared.SolvedOrbit.{SolvedOrbit}
 use Rattle.received.specs.Mirror.{mirroredAll}
 use Rattle.ordering.specs.Order.{PassSet, passSet, orderOf, inTime}
-use Rattle.fit.specs.Answer.{Arguments, arguments, Outputs, roomOf}
+use Rattle.fit.specs.Answer.{Arguments, arguments, Outputs, outputRoom}
 use Rattle.tle.specs.Lines.{catalogOf}
-use Rattle.tle.specs.Answer.{refusalOf, Formats}
+use Rattle.tle.specs.Answer.{linesRefusal, Formats}
 use Rattle.tle.specs.declared.Catalog.{Catalog}
 use Rattle.tle.proofs.Answers.{catalog-length}
 use Rattle.determination.specs.Calls.{Determines}
@@ -28,7 +28,7 @@ nothing : {n : ℕ} {l : List ℕ} → n ≡ 0 → Writes n l []
 nothing e = rw e (record { room = zero-le; is = refl })
 
 module _ (name : List ℕ) (o : SolvedOrbit) (out : List ℕ) {out′ : List ℕ} {r : Catalog} (h : Formats name o out out′ r) where
-  by-number : (k : ℕ) → refusalOf name o (length out) ≡ k → Writes (r .length) out′ (cond (eqb k 0) (catalogOf name o) [])
+  by-number : (k : ℕ) → linesRefusal name o (length out) ≡ k → Writes (r .length) out′ (cond (eqb k 0) (catalogOf name o) [])
   by-number zero e =
       let n : r .length ≡ length name + 141 = rw e at (h .written) in
       let t : out′ ≡ catalogOf name o ++ drop (length name + 141) out = rw e at (h .text) in
@@ -44,7 +44,7 @@ module _ (name : List ℕ) (o : SolvedOrbit) (out : List ℕ) {out′ : List ℕ
 
   lines-text : Writes (r .length) out′ (textOf name o (length out))
   unfolding textOf
-  lines-text = by-number (refusalOf name o (length out)) refl
+  lines-text = by-number (linesRefusal name o (length out)) refl
 
 module _ {x : Arguments} {w w′ : Outputs} {scratch scratch′ : List Float} (name text : List ℕ) {text′ : List ℕ} {d : Determination} (h : Determines x w w′ scratch scratch′ name text text′ d) where
   by-refusal : (k : ℕ) → d .fit .refusal ≡ k → Writes (d .lines .length) text′ (cond (eqb k 0) (textOf name (d .fit .orbit) (length text)) [])
@@ -53,7 +53,7 @@ module _ {x : Arguments} {w w′ : Outputs} {scratch scratch′ : List Float} (n
       let z : eqb (suc k) 0 ≡ false = ne-eqb (suc k) 0 (λ (q : suc k ≡ 0). omega arith) in
       rw z (nothing (ap (λ (c : Catalog). c .length) (h .unwritten (omega (arith, e)) .answered)))
 
-  pub text-writes : Writes (d .lines .length) text′ (outputOf name x (roomOf w scratch) (length text))
+  pub text-writes : Writes (d .lines .length) text′ (outputOf name x (outputRoom w scratch) (length text))
   unfolding outputOf fitOf
   text-writes = rw (← h .fits .answered) (by-refusal (d .fit .refusal) refl)
 

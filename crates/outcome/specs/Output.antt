@@ -13,7 +13,7 @@ use Rattle.solution.specs.declared.SolvedOrbit.{SolvedOrbit}
 use Rattle.received.specs.Mirror.{mirroredAll}
 use Rattle.ordering.specs.Order.{PassSet, orderOf, inTime}
 use Rattle.arguments.specs.Refusals.{Room}
-use Rattle.fit.specs.Answer.{Arguments, arguments, refusalOf, bookOf, answer, Outputs, roomOf}
+use Rattle.fit.specs.Answer.{Arguments, arguments, fitRefusal, bookOf, fitAnswer, Outputs, outputRoom}
 use Rattle.fit.specs.declared.Fit.{Fit}
 use Rattle.tle.specs.Lines.{catalogOf}
 use Rattle.tle.specs.Answer as lines
@@ -52,11 +52,11 @@ fittedSet received s = inTime (heard received s)
 
 -- the fit's answer
 unfoldable pub fitOf : Arguments → Room → Fit
-fitOf x room = answer (refusalOf x room) (bookOf x) (x .times)
+fitOf x room = fitAnswer (fitRefusal x room) (bookOf x) (x .times)
 
 -- an orbit's lines, or nothing where they are refused; `size` bytes are lent for them
 unfoldable pub textOf : List ℕ → SolvedOrbit → ℕ → List ℕ
-textOf name o size = cond (eqb (lines.refusalOf name o size) 0) (catalogOf name o) []
+textOf name o size = cond (eqb (lines.linesRefusal name o size) 0) (catalogOf name o) []
 
 -- standard output: the lines where fit and lines are accepted, nothing otherwise
 unfoldable pub outputOf : List ℕ → Arguments → Room → ℕ → List ℕ
@@ -72,4 +72,4 @@ pub record Comes (received : Bool) (s s′ : PassSet) (order : List ℕ) (rec : 
   pub ordered : order ≡ orderOf (s .counts) (s .times)
   pub set : s′ ≡ fittedSet received s
   pub determined : Determines (given (fittedSet received s) rec i) w w′ scratch scratch′ name text text′ d
-  pub writes : Writes (d .lines .length) text′ (outputOf name (given (fittedSet received s) rec i) (roomOf w scratch) (length text))
+  pub writes : Writes (d .lines .length) text′ (outputOf name (given (fittedSet received s) rec i) (outputRoom w scratch) (length text))

@@ -8,7 +8,7 @@ ghost use Rattle.passes.specs.Line.{lineOf};
 ghost use Rattle.survey.specs.Survey.{classOf, firstOf, counting, opening, surveyed, Small};
 use passes::line;
 use passes::line::Line;
-use passes::text;
+use passes::pieces;
 
 const BLANK: u8 = 0;
 
@@ -31,7 +31,7 @@ pub struct Tally {
 fn class(l: &[u8]) -> u8
     ensures { λ r. ⌜ r ≡ classOf (lineOf (now (l .entry))) (eqb (length (trim (now (l .entry)))) 0) ⌝ }
 {
-    let t = text::trim(l);
+    let t = pieces::trim(l);
     let x = line::read_line(l);
     match x {
         Line::Skipped => { if t.start == t.end { BLANK } else { SKIPPED } }
@@ -106,7 +106,7 @@ pub fn survey(file: &[u8]) -> Tally
     };
     let mut at = 0;
     while at < file.len() {
-        let c = text::line(&file[at..]);
+        let c = pieces::line(&file[at..]);
         let e = at + c.size;
         let next = c.next;
         s = counted(s, class(&file[at..e]));
