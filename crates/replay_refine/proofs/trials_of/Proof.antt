@@ -39,6 +39,9 @@ returns c = search needs
 returns-2 : tie.Need-returns-2 Inv-loop μ-loop
 returns-2 c = search needs
 
+returns-3 : tie.Need-returns-3 Inv-loop μ-loop
+returns-3 c = search needs
+
 pub trials-of-spec : {M : Type 1} → statement M
 trials-of-spec =
     tie.close
@@ -53,4 +56,5 @@ trials-of-spec =
     loop-less
     loop-again
     returns
-    returns-2)
+    returns-2
+    returns-3)
