@@ -154,6 +154,15 @@ pub fn fields(kind: &str, seed: u64, k: u64) -> Vec<u64> {
             while !workable(&c) || c.set.times.len() > 40 {
                 c = simulator::any(r.word());
             }
+            // One pass, or none.
+            if r.one_in(10) {
+                let n = if r.one_in(2) { c.set.counts.iter().position(|&n| n > 0).unwrap() + 1 } else { 0 };
+                let samples: u32 = c.set.counts[..n].iter().sum();
+                c.set.counts.truncate(n);
+                c.set.centers.truncate(n);
+                c.set.times.truncate(samples as usize);
+                c.set.freqs.truncate(samples as usize);
+            }
             l.set(&c.set).floats(&c.receiver).float(r.between(6600e3, 8000e3)).float(c.i)
         }
         "residuals1" | "residuals2" | "step1" | "step2" | "steps1" | "steps2" => {

@@ -288,12 +288,13 @@ pub fn fit(s: &Set, rec: [f64; 3], a: f64, i: f64) -> Answer<Fit> {
     }
 }
 
-/// The search alone: best raan0, u0 and sum of the 144 starts, on the first two non-empty passes.
+/// The search alone: best raan0, u0 and sum of the 144 starts, on the first two non-empty passes, or as many as there are. Without one nothing reads the
+/// epoch and the centre.
 pub fn search(s: &Set, rec: [f64; 3], a: f64, i: f64) -> Answer<[f64; 3]> {
-    let all: Vec<RawPass> = passes(s).into_iter().filter(|p| !p.points.is_empty()).collect();
-    let (epoch, center) = (all[0].points[0].time, all[0].center_freq);
+    let all: Vec<RawPass> = passes(s).into_iter().filter(|p| !p.points.is_empty()).take(2).collect();
+    let (epoch, center) = all.first().map_or((time(Moment::of_nanos(0)), 0.0), |p| (p.points[0].time, p.center_freq));
     caught(|| {
-        let (raan0, u0, sum) = solver::search_block(&all[..2], rec, vec![a, i, 0.0, 0.0, 0.0, 0.0, 0.0, 0.0], epoch, center);
+        let (raan0, u0, sum) = solver::search_block(&all, rec, vec![a, i, 0.0, 0.0, 0.0, 0.0, 0.0, 0.0], epoch, center);
         [raan0, u0, sum]
     })
 }

@@ -600,7 +600,7 @@ pub fn residuals(second_one: bool, s: &Set, rec: [f64; 3], set: &[f64]) -> Answe
 
 /// The state after one trial, and whether the refinement goes on. A refusal leaves the given state and the place of the ending as they were, and scratch
 /// is untouched up to 21 and all zeros after any later ending.
-fn trial(second_one: bool, s: &Set, rec: [f64; 3], from: &State) -> Answer<(State, bool)> {
+fn trial(second_one: bool, s: &Set, rec: [f64; 3], from: &State, scratch: &mut Lent<f64>) -> Answer<(State, bool)> {
     let n = from.set.len();
     let (mut params, mut kept, mut numbers, mut ended) = (places(&from.set), places(&from.kept), Lent::new(2, PATTERN), Lent::new(1, u32::MAX));
     let number = numbers.start();
@@ -608,16 +608,13 @@ fn trial(second_one: bool, s: &Set, rec: [f64; 3], from: &State) -> Answer<(Stat
         *number = from.damping;
         *number.add(1) = from.best;
     }
-    let mut call = |scratch: *mut f64, room: usize| unsafe {
+    let refusal = unsafe {
         wisvalom_trial(
             second_one, s.counts.as_ptr(), s.counts.len(), s.times.as_ptr(), s.times.len(), s.freqs.as_ptr(), s.freqs.len(), s.centers[0],
-            rec[0], rec[1], rec[2], params.start(), kept.start(), number, number.add(1), ended.start(), scratch, room,
+            rec[0], rec[1], rec[2], params.start(), kept.start(), number, number.add(1), ended.start(),
+            scratch.start(), scratch.places().len(),
         )
     };
-    short(CELLS, PATTERN, &mut call);
-    let room = CELLS + spare(s.times.len());
-    let mut scratch = Lent::new(room, PATTERN);
-    let refusal = call(scratch.start(), room);
     if (1..=21).contains(&refusal) {
         scratch.written(0);
     } else {
@@ -642,10 +639,14 @@ fn state_bits(s: &State) -> Vec<u64> {
 
 fn trials(second_one: bool, s: &Set, rec: [f64; 3], from: State, tries: usize) -> Answer<State> {
     let s = working(s, if second_one { 16 } else { 2 });
+    let mut less = Lent::new(CELLS - 1, PATTERN);
+    assert!(trial(second_one, &s, rec, &from, &mut less).is_err_and(|n| n == 21), "a trial in a place too few");
+    // The first trial finds a pattern in it, the others what the one before left.
+    let mut scratch = Lent::new(CELLS + spare(s.times.len()), PATTERN);
     let (mut state, mut running) = (from, true);
     for _ in 0..tries {
         if running {
-            (state, running) = trial(second_one, &s, rec, &state)?;
+            (state, running) = trial(second_one, &s, rec, &state, &mut scratch)?;
         }
     }
     Ok(state)
