@@ -38,9 +38,7 @@ pub fn received() {
 }
 
 pub fn as_predicted() {
-    write(
-        b"frequencies as the fit predicts them, rising; give --as-received first if they fall\n",
-    );
+    write(b"frequencies as the fit predicts them, rising; give --as-received first if they fall\n");
 }
 
 // A mast that is not near the ground.
@@ -92,9 +90,7 @@ pub fn refusal(k: u32) {
 }
 
 pub fn name_unprintable() {
-    write(
-        b"fit_passes: refusal 11: the name is over 24 bytes or has a byte outside 32 to 126\n",
-    );
+    write(b"fit_passes: refusal 11: the name is over 24 bytes or has a byte outside 32 to 126\n");
 }
 
 pub fn orbit_unprintable() {

@@ -1,5 +1,4 @@
 pub mod Rounding
-pub mod Bounds
 pub mod Angle
 pub mod Rest
 pub mod Own

@@ -14,7 +14,7 @@ use borrow.Author.Tests.{lt-ltb, le-ltb, ltb-false, ne-eqb}
 use Rattle.float.specs.Ops.{_⊕_, _⊗_, _⊘_, _⊛_, bits, remEuclidOf, degreesOf}
 use Rattle.float.specs.Trig.{isFinite, full-bits}
 use Rattle.float.proofs.Rounding.{Within, round-within}
-use Rattle.float.proofs.Bounds.{nat-up, mul-up, add-up, Between, mul-between}
+use Rattle.bounds.proofs.Bounds.{nat-up, mul-up, add-up, Between, mul-between}
 use Rattle.roots.specs.Root.{isqrt, rootOf, sqrtOf}
 use Rattle.roots.proofs.Whole.{isqrt-whole}
 use Rattle.decimal.specs.Fixed.{within, printable}

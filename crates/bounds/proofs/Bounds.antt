@@ -52,7 +52,7 @@ add-up M N j l (fin false m c) (fin false n d) v w e =
     (plus (m * up c) (n * up d) (down c) (down d) M N (v .1) (w .1)) e
 
 -- ---- from lo to hi
-pub Between : ℕ → ℕ → Float → Type 0
+unfoldable pub Between : ℕ → ℕ → Float → Type 0
 Between lo hi nan = ⊥
 Between lo hi (inf s) = ⊥
 Between lo hi (fin true m e) = ⊥

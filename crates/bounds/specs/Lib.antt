@@ -1,0 +1,1 @@
+-- No definitions: the laws of proofs/ speak of those of float.

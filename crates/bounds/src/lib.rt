@@ -1,0 +1,1 @@
+// Bounds on floats that survive rounding: in proofs/, and no code.
