@@ -33,7 +33,7 @@ pub fn min(v: f64, w: f64) -> f64
     if w < v { w } else { v }
 }
 
-// |v|. Where v is no greater than zero, 0 - v has its size, and a zero comes out positive.
+// |v|: a zero comes out positive, and a NaN as it is.
 pub fn abs(v: f64) -> f64
     ensures { λ r. ⌜ r ≡ absOf v ⌝ }
 {

@@ -85,9 +85,10 @@ fn root_bits(m: u64, g: u64, estimate: u64) -> u64
     half * 4503599627370496 + nearest_root(n, estimate)
 }
 
-// The bit pattern of a number near the root of x, whose pattern is b. Nothing is proved of it.
-// y is within 0.00065 of 1 / √x, as a part of that, so e = 1 - x * y * y is within 0.0013 of 0, and
-// √x = x * y / √(1 - e). The polynomial is 1 / √(1 - e), to the last place or so.
+// The bit pattern of a number near the root of x, whose pattern is b. Only that it is safe is proved: `nearest_root` checks the
+// estimate, and works by digits where it is wrong. For a normal x, y is within 0.00066 of 1 / √x, as a part of that, so
+// e = 1 - x * y * y is within 0.0014 of 0, and √x = x * y / √(1 - e); the polynomial is 1 / √(1 - e), to the last place or so. For a
+// subnormal x it may be far off.
 fn estimated_bits(x: f64, b: u64) -> u64
     requires { ⌜ b < 0x7ff0000000000000 ⌝ }
 {
