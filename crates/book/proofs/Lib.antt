@@ -1,3 +1,4 @@
 pub mod Order
 pub mod Books
+pub mod Sets
 pub mod Demand

@@ -24,7 +24,7 @@ use Rattle.refine.specs.Advance.{advanceOf}
 use Rattle.arguments.specs.Refusals as given
 use Rattle.arguments.specs.Refusals.{Room, enough, inputRefusalOf}
 use Rattle.arguments.proofs.Laws as arguments
-use Rattle.fit.specs.Fit.{stationOf, passes, refined, trialBook}
+use Rattle.fit.specs.Fit.{observedStation, observedPasses, refined, trialBook}
 use Rattle.fit.specs.Answer.{
   Arguments,
   observations,
@@ -35,14 +35,14 @@ use Rattle.fit.specs.Answer.{
   biases,
   anyLarge,
   workRefusals,
-  refusalOf,
-  foundBy,
-  answer,
+  fitRefusal,
+  fitFound,
+  fitAnswer,
   Outputs,
-  roomOf,
+  outputRoom,
   over,
-  filled,
-  written,
+  filledOutputs,
+  writtenOutputs,
   Fits,
 }
 use Rattle.fit.specs.declared.Fit.{Fit}
@@ -81,8 +81,8 @@ record Passed (x : Arguments) : Type 0 where
   given : given.Accepted (x .counts) (x .times) (x .freqs) (x .centers) (x .rec) (x .a) (x .i)
   low : lt largestSum (bookOf x .search .best) ≡ false
 
-passed : (x : Arguments) (room : Room) → refusalOf x room ≡ 0 → Passed x
-unfolding refusalOf
+passed : (x : Arguments) (room : Room) → fitRefusal x room ≡ 0 → Passed x
+unfolding fitRefusal
 passed x room e =
     let p = passCount x in
     let b = bookOf x in
@@ -99,7 +99,7 @@ passed x room e =
 
 book-tried : (x : Arguments) → lt largestSum (bookOf x .search .best) ≡ false → Tried (sumIn x) 150 (bookOf x)
 unfolding trialBook refined
-book-tried x low = tried (sumIn x) (advanceOf true (stationOf (observations x)) (passes (observations x))) true _ 150 low
+book-tried x low = tried (sumIn x) (advanceOf true (observedStation (observations x)) (observedPasses (observations x))) true _ 150 low
 
 none-below : (sum : List Float → Option Float) (v : Float) (xs : List (List Float)) (l : List Float) → map sum xs ≡ map some l
     → All (λ s. lt s v ≡ false) l → anyBelow sum v xs ≡ false
@@ -121,16 +121,16 @@ module _ (x : Arguments) (w : Outputs) (p : Passed x) (t : Tried (sumIn x) 150 (
   n = passCount x
 
   abbrev out : Outputs
-  out = filled best n (bookOf x .log) w
+  out = filledOutputs best n (bookOf x .log) w
 
   abbrev answered : Fit
-  answered = foundBy (bookOf x .search) (bookOf x .count) (x .times)
+  answered = fitFound (bookOf x .search) (bookOf x .count) (x .times)
 
   front : (k : ℕ) (old : List Float) → take n (over (biases k best n) old) ≡ biases k best n
   front k old = take-at (biases k best n) (drop (length (biases k best n)) old) n (length-biases k best n)
 
   -- the orbit's epoch is that of the tried sets
-  station-same : stationAt (answered .orbit .epoch) (observations x) ≡ stationOf (observations x)
+  station-same : stationAt (answered .orbit .epoch) (observations x) ≡ observedStation (observations x)
   station-same =
       ap (λ (m : Instant). record { epoch = m; «center_freq» = observations x .center; «rec_ecef» = x .rec })
       (moment-instant (getD (x .times) 0 (pos 0)) (p .given .timed .each 0 (omega (arith, p .given .samples))))
@@ -138,8 +138,8 @@ module _ (x : Arguments) (w : Outputs) (p : Passed x) (t : Tried (sumIn x) 150 (
   again : sumAgain x (answered .orbit) out ≡ some (bookOf x .search .best)
   unfolding sumAgain
   again =
-      ap (λ (g : Station). penalisedSum true g (passes (observations x)) (returnedSet (answered .orbit) out n)) station-same
-      ∙ sum-same (stationOf (observations x)) (passes (observations x)) (returnedSet (answered .orbit) out n) best
+      ap (λ (g : Station). penalisedSum true g (observedPasses (observations x)) (returnedSet (answered .orbit) out n)) station-same
+      ∙ sum-same (observedStation (observations x)) (observedPasses (observations x)) (returnedSet (answered .orbit) out n) best
       (returned-agrees best n (answered .orbit) out
       (record {
         dt = λ q h. over-at 0 best n (w .dts) q h ∙ ap (at best) (omega arith);
@@ -176,26 +176,26 @@ module _ (x : Arguments) (w : Outputs) (p : Passed x) (t : Tried (sumIn x) 150 (
 
 -- ---- the theorem
 
-answer-number : (n : ℕ) (b : Book) (times : List ℤ) → answer n b times .refusal ≡ n
-unfolding answer
+answer-number : (n : ℕ) (b : Book) (times : List ℤ) → fitAnswer n b times .refusal ≡ n
+unfolding fitAnswer
 answer-number zero b times = refl
 answer-number (suc n) b times = refl
 
 module _ (x : Arguments) (w w′ : Outputs) (scratch scratch′ : List Float) (r : Fit) (f : Fits x w w′ scratch scratch′ r) (ok : r .refusal ≡ 0) where
-  none-refused : refusalOf x (roomOf w scratch) ≡ 0
-  none-refused = sym (answer-number (refusalOf x (roomOf w scratch)) (bookOf x) (x .times)) ∙ ap (λ (s : Fit). s .refusal) (sym (f .answered)) ∙ ok
+  none-refused : fitRefusal x (outputRoom w scratch) ≡ 0
+  none-refused = sym (answer-number (fitRefusal x (outputRoom w scratch)) (bookOf x) (x .times)) ∙ ap (λ (s : Fit). s .refusal) (sym (f .answered)) ∙ ok
 
-  is-found : r ≡ foundBy (bookOf x .search) (bookOf x .count) (x .times)
-  unfolding answer
-  is-found = f .answered ∙ ap (λ (k : ℕ). answer k (bookOf x) (x .times)) none-refused
+  is-found : r ≡ fitFound (bookOf x .search) (bookOf x .count) (x .times)
+  unfolding fitAnswer
+  is-found = f .answered ∙ ap (λ (k : ℕ). fitAnswer k (bookOf x) (x .times)) none-refused
 
-  is-filled : w′ ≡ filled (bookOf x .search .bestSet) (passCount x) (bookOf x .log) w
-  unfolding written
-  is-filled = f .filled ∙ ap (λ (k : ℕ). written k (bookOf x) (passCount x) w) none-refused
+  is-filled : w′ ≡ filledOutputs (bookOf x .search .bestSet) (passCount x) (bookOf x .log) w
+  unfolding writtenOutputs
+  is-filled = f .filled ∙ ap (λ (k : ℕ). writtenOutputs k (bookOf x) (passCount x) w) none-refused
 
   -- whenever the fit accepts
   pub accepted : Accepted x w w′ r
-  accepted = let p = passed x (roomOf w scratch) none-refused in rw (is-found, is-filled) (found x w p (book-tried x (p .low)))
+  accepted = let p = passed x (outputRoom w scratch) none-refused in rw (is-found, is-filled) (found x w p (book-tried x (p .low)))
 
   module _ (name text text′ : List ℕ) (c : Catalog) (g : Formats name (r .orbit) text text′ c) (printed : c .refusal ≡ 0) where
     lines-accepted : tle.refusalOf name (r .orbit) (length text) ≡ 0

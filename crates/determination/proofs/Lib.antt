@@ -1,4 +1,5 @@
 pub mod Sets
+pub mod Places
 pub mod Demand
 pub mod Calls
 pub mod Table

@@ -26,6 +26,8 @@ use Rattle.residuals.specs.Residuals.{
   driftPenalties,
   penalties,
   residuals,
+  each,
+  sumOf,
   penalisedSum,
 }
 use Rattle.residuals.specs.declared.Station.{Station}
@@ -88,16 +90,20 @@ module _ (n : ℕ) (x y : List Float) (s : Agree n x y) where
       let d = s .each (4 + 4 * p + 3) (omega arith) in
       rw (c, d, drift-penalties-same (p + 1) m (omega arith))
 
--- ---- so their sums are equal
-pub sum-same : (g : Station) (d : Passes) (x y : List Float) → Agree (length (d .counts)) x y → penalisedSum true g d x ≡ penalisedSum true g d y
-unfolding penalisedSum residuals penalties
-sum-same g d x y s =
+-- ---- so their residuals and sums are equal
+pub residuals-same : (g : Station) (d : Passes) (x y : List Float) → Agree (length (d .counts)) x y → residuals true g d x ≡ residuals true g d y
+unfolding residuals penalties
+residuals-same g d x y s =
     let n = length (d .counts) in
     rw (
       passes-same (residual true g d x) (residual true g d y) n (residual-same n x y s g d) 0 0 (d .counts) (omega arith),
       dt-penalties-same n x y s 0 n (omega arith),
       drift-penalties-same n x y s 0 n (omega arith),
     )
+
+pub sum-same : (g : Station) (d : Passes) (x y : List Float) → Agree (length (d .counts)) x y → penalisedSum true g d x ≡ penalisedSum true g d y
+unfolding penalisedSum
+sum-same g d x y s = ap (each sumOf) (residuals-same g d x y s)
 
 -- ---- the returned set
 

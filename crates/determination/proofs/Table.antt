@@ -19,11 +19,11 @@ use Rattle.monna.specs.History.{differencesOf, differenceAt, cellOf, quotientOf
 use Rattle.arguments.specs.Passes.{nonEmpty}
 use Rattle.float.specs.Trig.{pi}
 use Rattle.arguments.specs.Refusals.{leastA, mostA, nanArgument, outOfRange, anyNan, scratchSize, enough}
-use Rattle.fit.specs.Answer.{refusalOf}
+use Rattle.fit.specs.Answer.{fitRefusal}
 use Rattle.tle.specs.Lines.{sumOf, checksumOf}
 use Rattle.determination.specs.Table as document
 use Rattle.determination.specs.Table.{Hold}
 
 pub holds : Hold document.table
-unfolding document.table neg ofBits round ofInt toUnsigned add sub mul div lt eq isNan for turns rev try tried sqrtOf absOf one two floorOf secondsOf unitsOf inRange timeInRange timesInRange shifted leap monthLength tomorrowIn dateOf jdOf julianOf dayFraction jdAt datetimeToJdOf total sizesAgree leastPivot largerPivot pivotRow swapEntries swapRows eliminateEntry eliminateRow eliminateBelow reduceColumn forwardElimination addTerm substituteRow backSubstitution augmentEntry augmentRow augmented solutionOf linear.refusalOf drawOf monnaOf inverseOf distanceOf digits placed taken clampOf margin times valuation raised baseRefusal digitsRefusal monnaMapOf pAdicDistanceOf inverseMonnaMapOf differencesOf differenceAt cellOf quotientOf leastDistance table nonEmpty leastA mostA pi nanArgument outOfRange anyNan scratchSize enough refusalOf sumOf checksumOf
+unfolding document.table neg ofBits round ofInt toUnsigned add sub mul div lt eq isNan for turns rev try tried sqrtOf absOf one two floorOf secondsOf unitsOf inRange timeInRange timesInRange shifted leap monthLength tomorrowIn dateOf jdOf julianOf dayFraction jdAt datetimeToJdOf total sizesAgree leastPivot largerPivot pivotRow swapEntries swapRows eliminateEntry eliminateRow eliminateBelow reduceColumn forwardElimination addTerm substituteRow backSubstitution augmentEntry augmentRow augmented solutionOf linear.refusalOf drawOf monnaOf inverseOf distanceOf digits placed taken clampOf margin times valuation raised baseRefusal digitsRefusal monnaMapOf pAdicDistanceOf inverseMonnaMapOf differencesOf differenceAt cellOf quotientOf leastDistance table nonEmpty leastA mostA pi nanArgument outOfRange anyNan scratchSize enough fitRefusal sumOf checksumOf
 holds = (refl, (refl, (refl, (refl, (refl, (refl, (refl, (refl, (refl, (refl, (refl, (refl, (refl, (refl, (refl, (refl, (refl, tt)))))))))))))))))

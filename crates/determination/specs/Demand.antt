@@ -13,7 +13,7 @@ use Rattle.residuals.specs.Residuals.{at, penalisedSum}
 use Rattle.residuals.specs.declared.Station.{Station}
 use Rattle.book.specs.Demand.{largestSum, Falling, minima, keptSets, lastOf, lastSet}
 use Rattle.solution.specs.declared.SolvedOrbit.{SolvedOrbit}
-use Rattle.fit.specs.Fit.{Observations, stationOf, passes}
+use Rattle.fit.specs.Fit.{Observations, observedStation, observedPasses}
 use Rattle.fit.specs.Answer.{Arguments, observations, passCount, bookOf, biases, orbitOf, Outputs}
 use Rattle.fit.specs.declared.Fit.{Fit}
 use Rattle.tle.specs.Lines.{catalogOf}
@@ -23,7 +23,7 @@ use Rattle.tle.specs.Printed.{Printed}
 
 -- what a trial of the second refinement compares, from the fit's arguments and a set
 abbrev pub sumIn : Arguments → List Float → Option Float
-sumIn x = penalisedSum true (stationOf (observations x)) (passes (observations x))
+sumIn x = penalisedSum true (observedStation (observations x)) (observedPasses (observations x))
 
 -- the set that a caller holds: the orbit's four numbers, and four biases for each of n passes, from pass p on, out of four slices
 unfoldable pub biasesFrom : Outputs → ℕ → ℕ → List Float
@@ -39,7 +39,7 @@ stationAt m x = record { epoch = record { secs = secondsOf (m .seconds); nanos =
 
 -- its penalised sum, from the samples, the returned orbit and the returned biases alone
 unfoldable pub sumAgain : Arguments → SolvedOrbit → Outputs → Option Float
-sumAgain x o w = penalisedSum true (stationAt (o .epoch) (observations x)) (passes (observations x)) (returnedSet o w (passCount x))
+sumAgain x o w = penalisedSum true (stationAt (o .epoch) (observations x)) (observedPasses (observations x)) (returnedSet o w (passCount x))
 
 -- whether one of these sets has a sum below v
 abbrev pub isBelow : Float → Option Float → Bool

@@ -19,7 +19,7 @@ use Rattle.monna.specs.Answers.{monnaMapOf, pAdicDistanceOf, inverseMonnaMapOf}
 use Rattle.monna.specs.declared.Mapped.the-variants as mapped
 use Rattle.monna.specs.declared.Inverse.the-variants as inverse
 use Rattle.arguments.specs.Refusals as given
-use Rattle.fit.specs.Answer.{Arguments, arguments, refusalOf}
+use Rattle.fit.specs.Answer.{Arguments, arguments, fitRefusal}
 use Rattle.tle.specs.Lines.{checksumOf}
 use Rattle.tle.specs.Example.{first-line, second-line}
 
@@ -69,6 +69,6 @@ table =
     ∷ (linear.refusalOf 1 (decimal 1 12 ∷ []) (whole 1 ∷ []) 1 2 is 0)
     ∷ (linear.refusalOf 1 (decimal 5 13 ∷ []) (whole 1 ∷ []) 1 2 is 22)
     -- P = 2 and S = 5, S = 6
-    ∷ (refusalOf (twoPasses 5) noRoom is 10)
-    ∷ (refusalOf (twoPasses 6) noRoom is 21)
+    ∷ (fitRefusal (twoPasses 5) noRoom is 10)
+    ∷ (fitRefusal (twoPasses 6) noRoom is 21)
     ∷ []

@@ -34,17 +34,17 @@ use Rattle.fit.specs.Answer.{
   firstOf,
   bookOf,
   workRefusals,
-  refusalOf,
-  earlyOf,
+  fitRefusal,
+  earlyRefusal,
   refusedBy,
-  foundBy,
-  answer,
+  fitFound,
+  fitAnswer,
   Outputs,
   outputs,
-  roomOf,
-  filled,
-  written,
-  cleared,
+  outputRoom,
+  filledOutputs,
+  writtenOutputs,
+  clearedScratch,
   Fits,
 }
 use Rattle.fit.specs.Work.{Given, Solves, Holds, Puts}
@@ -53,23 +53,23 @@ use Rattle.fit.specs.declared.Solved.{Solved}
 
 -- ---- what a number decides
 
-answer-refused : (m n : ℕ) (b : Book) (times : List ℤ) → m ≡ n → (n ≡ 0 → ⊥) → refusedBy n ≡ answer m b times
-unfolding answer
+answer-refused : (m n : ℕ) (b : Book) (times : List ℤ) → m ≡ n → (n ≡ 0 → ⊥) → refusedBy n ≡ fitAnswer m b times
+unfolding fitAnswer
 answer-refused m zero b times e h = absurd (h refl)
 answer-refused m (suc k) b times e h = rw e
 
-written-refused : (m n : ℕ) (b : Book) (p : ℕ) (o : Outputs) → m ≡ n → (n ≡ 0 → ⊥) → o ≡ written m b p o
-unfolding written
+written-refused : (m n : ℕ) (b : Book) (p : ℕ) (o : Outputs) → m ≡ n → (n ≡ 0 → ⊥) → o ≡ writtenOutputs m b p o
+unfolding writtenOutputs
 written-refused m zero b p o e h = absurd (h refl)
 written-refused m (suc k) b p o e h = rw e
 
-cleared-refused : (m n : ℕ) (s : List Float) → m ≡ n → (n ≡ 0 → ⊥) → s ≡ cleared m s
-unfolding cleared
+cleared-refused : (m n : ℕ) (s : List Float) → m ≡ n → (n ≡ 0 → ⊥) → s ≡ clearedScratch m s
+unfolding clearedScratch
 cleared-refused m zero s e h = absurd (h refl)
 cleared-refused m (suc k) s e h = rw e
 
-cleared-all : (m : ℕ) (s s′ : List Float) → m ≡ 0 → s′ ≡ replicate (length s) (bits 0) → s′ ≡ cleared m s
-unfolding cleared
+cleared-all : (m : ℕ) (s s′ : List Float) → m ≡ 0 → s′ ≡ replicate (length s) (bits 0) → s′ ≡ clearedScratch m s
+unfolding clearedScratch
 cleared-all m s s′ e h = rw (e, h)
 
 not-zero : (n a : ℕ) → (n ≡ 0 → ⊥) → cond (eqb n 0) a n ≡ n
@@ -84,9 +84,9 @@ is-zero n a h = rw h
 
 -- ---- the trial book's answer
 
-found-answer : (m : ℕ) (b : Book) (t : Trials) (old sums : List Float) (times : List ℤ) (r : Fit) → m ≡ 0 → RunsTo b old sums t → r ≡ foundBy (stateSearch (t .state)) (t .count) times
-    → r ≡ answer m b times
-unfolding answer
+found-answer : (m : ℕ) (b : Book) (t : Trials) (old sums : List Float) (times : List ℤ) (r : Fit) → m ≡ 0 → RunsTo b old sums t → r ≡ fitFound (stateSearch (t .state)) (t .count) times
+    → r ≡ fitAnswer m b times
+unfolding fitAnswer
 found-answer m b t old sums times r e run is = rw (e, ← run .search, ← run .count) is
 
 -- the log's sums are those that the book has
@@ -94,13 +94,13 @@ log-is : (b : Book) (t : Trials) (old sums : List Float) → RunsTo b old sums t
 log-is b t old sums run e = ap (take (t .count)) (run .logged) ∙ take-at (b .log) _ (t .count) (sym e ∙ sym (run .count))
 
 found-written : (m : ℕ) (b : Book) (t : Trials) (old sums : List Float) (p : ℕ) (o o′ : Outputs) → m ≡ 0 → RunsTo b old sums t → b .count ≡ length (b .log)
-    → o′ ≡ filled (t .state .«best_params») p (take (t .count) sums) o → o′ ≡ written m b p o
-unfolding written
+    → o′ ≡ filledOutputs (t .state .«best_params») p (take (t .count) sums) o → o′ ≡ writtenOutputs m b p o
+unfolding writtenOutputs
 found-written m b t old sums p o o′ e run k is =
     is
-    ∙ ap (λ (l : List Float). filled (t .state .«best_params») p l o) (log-is b t old sums run k)
-    ∙ ap (λ (s : Search). filled (s .bestSet) p (b .log) o) (run .search)
-    ∙ ap (λ (j : ℕ). written j b p o) (sym e)
+    ∙ ap (λ (l : List Float). filledOutputs (t .state .«best_params») p l o) (log-is b t old sums run k)
+    ∙ ap (λ (s : Search). filledOutputs (s .bestSet) p (b .log) o) (run .search)
+    ∙ ap (λ (j : ℕ). writtenOutputs j b p o) (sym e)
 
 logged : (a i : Float) (x : Observations) → trialBook a i x .count ≡ length (trialBook a i x .log)
 unfolding trialBook refined
@@ -113,16 +113,16 @@ most-trials a i x = most _ _ _ _ 150
 -- ---- the ways out
 
 module _ (x : Arguments) (o : Outputs) (scratch : List Float) (n : ℕ) (h : n ≡ inputRefusalOf (x .counts) (x .times) (x .freqs) (x .centers) (x .rec) (x .a) (x .i)) where
-  refusal-is : cond (eqb n 0) (first ((refusal.short-memory if not (enough (length (x .times)) (passCount x) (roomOf o scratch))) ∷ workRefusals (firstOf x) (bookOf x) (passCount x))) n
-      ≡ refusalOf x (roomOf o scratch)
-  unfolding refusalOf
-  refusal-is = then (x .counts) (x .times) (x .freqs) (x .centers) (x .rec) (x .a) (x .i) n ((refusal.short-memory if not (enough (length (x .times)) (passCount x) (roomOf o scratch))) ∷ workRefusals (firstOf x) (bookOf x) (passCount x)) h
+  refusal-is : cond (eqb n 0) (first ((refusal.short-memory if not (enough (length (x .times)) (passCount x) (outputRoom o scratch))) ∷ workRefusals (firstOf x) (bookOf x) (passCount x))) n
+      ≡ fitRefusal x (outputRoom o scratch)
+  unfolding fitRefusal
+  refusal-is = then (x .counts) (x .times) (x .freqs) (x .centers) (x .rec) (x .a) (x .i) n ((refusal.short-memory if not (enough (length (x .times)) (passCount x) (outputRoom o scratch))) ∷ workRefusals (firstOf x) (bookOf x) (passCount x)) h
 
-  early-is : cond (eqb n 0) (first ((refusal.short-memory if not (enough (length (x .times)) (passCount x) (roomOf o scratch))) ∷ [])) n ≡ earlyOf x (roomOf o scratch)
+  early-is : cond (eqb n 0) (first ((refusal.short-memory if not (enough (length (x .times)) (passCount x) (outputRoom o scratch))) ∷ [])) n ≡ earlyRefusal x (outputRoom o scratch)
   unfolding given.refusalOf
-  early-is = then (x .counts) (x .times) (x .freqs) (x .centers) (x .rec) (x .a) (x .i) n ((refusal.short-memory if not (enough (length (x .times)) (passCount x) (roomOf o scratch))) ∷ []) h
+  early-is = then (x .counts) (x .times) (x .freqs) (x .centers) (x .rec) (x .a) (x .i) n ((refusal.short-memory if not (enough (length (x .times)) (passCount x) (outputRoom o scratch))) ∷ []) h
 
-  refused-by : (k : ℕ) → refusalOf x (roomOf o scratch) ≡ k → earlyOf x (roomOf o scratch) ≡ k → (k ≡ 0 → ⊥) → Fits x o o scratch scratch (refusedBy k)
+  refused-by : (k : ℕ) → fitRefusal x (outputRoom o scratch) ≡ k → earlyRefusal x (outputRoom o scratch) ≡ k → (k ≡ 0 → ⊥) → Fits x o o scratch scratch (refusedBy k)
   refused-by k e f z = record {
     answered = answer-refused _ k _ _ e z;
     filled = written-refused _ k _ _ _ e z;
@@ -133,23 +133,23 @@ module _ (x : Arguments) (o : Outputs) (scratch : List Float) (n : ℕ) (h : n �
   fits-input z = refused-by n (sym refusal-is ∙ not-zero n _ z) (sym early-is ∙ not-zero n _ z) z
 
   module _ (z : n ≡ 0) where
-    pub fits-room : enough (length (x .times)) (passCount x) (roomOf o scratch) ≡ false → Fits x o o scratch scratch (refusedBy 21)
+    pub fits-room : enough (length (x .times)) (passCount x) (outputRoom o scratch) ≡ false → Fits x o o scratch scratch (refusedBy 21)
     fits-room e =
         refused-by 21
         (sym refusal-is ∙ is-zero n _ z ∙ ap (λ (b : Bool). first ((refusal.short-memory if not b) ∷ workRefusals (firstOf x) (bookOf x) (passCount x))) e)
         (sym early-is ∙ is-zero n _ z ∙ ap (λ (b : Bool). first ((refusal.short-memory if not b) ∷ [])) e)
         (λ k. omega (arith, k))
 
-    module _ (e : enough (length (x .times)) (passCount x) (roomOf o scratch) ≡ true) (w : Solved) (old sums : List Float) (s : Solves (observations x) (radius (observations x)) (x .i) old sums w) (scratch′ : List Float)
+    module _ (e : enough (length (x .times)) (passCount x) (outputRoom o scratch) ≡ true) (w : Solved) (old sums : List Float) (s : Solves (observations x) (radius (observations x)) (x .i) old sums w) (scratch′ : List Float)
         (zeros : scratch′ ≡ replicate (length scratch) (bits 0)) where
-      worked : refusalOf x (roomOf o scratch) ≡ w .refusal
+      worked : fitRefusal x (outputRoom o scratch) ≡ w .refusal
       worked =
           sym refusal-is
           ∙ is-zero n _ z
           ∙ ap (λ (b : Bool). first ((refusal.short-memory if not b) ∷ workRefusals (firstOf x) (bookOf x) (passCount x))) e
           ∙ sym (s .refused)
 
-      not-early : earlyOf x (roomOf o scratch) ≡ 0
+      not-early : earlyRefusal x (outputRoom o scratch) ≡ 0
       not-early = sym early-is ∙ is-zero n _ z ∙ ap (λ (b : Bool). first ((refusal.short-memory if not b) ∷ [])) e
 
       pub fits-worked : (w .refusal ≡ 0 → ⊥) → Fits x o o scratch scratch′ (refusedBy (w .refusal))
@@ -174,8 +174,8 @@ pub solves-all : (x : Arguments) (counts : List ℕ) (center a : Float) (old sum
 unfolding radius
 solves-all x counts center a old sums w e f g s = rw (g, e, f) at s
 
-pub room-said : (x : Arguments) (o : Outputs) (scratch : List Float) (p : ℕ) (r t : Bool) → r ≡ enough (length (x .times)) p (roomOf o scratch) → p ≡ passCount x → r ≡ t
-    → enough (length (x .times)) (passCount x) (roomOf o scratch) ≡ t
+pub room-said : (x : Arguments) (o : Outputs) (scratch : List Float) (p : ℕ) (r t : Bool) → r ≡ enough (length (x .times)) p (outputRoom o scratch) → p ≡ passCount x → r ≡ t
+    → enough (length (x .times)) (passCount x) (outputRoom o scratch) ≡ t
 room-said x o scratch p r t e f h = rw (← f, ← e) h
 
 pub few-passes : {counts : List ℕ} {times : List ℤ} {freqs centers : List Float} {rec : Vec3} {a i : Float} {r : NonEmpty}
@@ -186,7 +186,7 @@ pub in-sixteen : (n : ℕ) (l : List ℕ) → n ≤ 16 → length l ≡ 16 → n
 in-sixteen n l h e = rw e h
 
 module _ (x : Arguments) (o : Outputs) (scratch : List Float) (a : Accepted (x .counts) (x .times) (x .freqs) (x .centers) (x .rec) (x .a) (x .i)) (r : NonEmpty) (c : Compacts (x .counts) r)
-    (e : enough (length (x .times)) (passCount x) (roomOf o scratch) ≡ true) where
+    (e : enough (length (x .times)) (passCount x) (outputRoom o scratch) ≡ true) where
   pub passes-all : Passes (take (r .passes) (r .counts)) (x .times) (x .freqs) × (0 < length (take (r .passes) (r .counts)))
   passes-all = rw (c .kept) (accepted-passes a, omega (arith, a .passes))
 

@@ -1,3 +1,4 @@
 pub mod Laws
 pub mod Steps
+pub mod Behind
 pub mod Answers

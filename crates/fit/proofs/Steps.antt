@@ -38,13 +38,13 @@ use Rattle.trials.specs.declared.State.{State}
 use Rattle.start.specs.Start.{startingSet}
 use Rattle.start.proofs.Given.{first-passes}
 use Rattle.arguments.specs.Refusals.{scratchSize}
-use Rattle.fit.specs.Fit.{Observations, observed, epochOf, firstTwo, bestStart, startElements, refined, refinedTwo, firstBook, trialBook}
+use Rattle.fit.specs.Fit.{Observations, observed, observedEpoch, firstTwo, bestStart, startElements, refined, refinedTwo, firstBook, trialBook}
 use Rattle.fit.specs.Answer.{farEnding, farRefusal, searchRefusals}
 use Rattle.fit.specs.Work.{Refines, Two, Given, Ends, Solves}
 
 -- ---- the start
 
-pub elements-found : (a i : Float) (x : Observations) (epoch : Instant) (f : Found) → epoch ≡ epochOf x
+pub elements-found : (a i : Float) (x : Observations) (epoch : Instant) (f : Found) → epoch ≡ observedEpoch x
     → f ≡ searchOf (sumOf (x .counts) (x .times) (x .freqs) (x .center ∷ x .center ∷ []) (record { «rec_ecef» = x .rec; a = a; i = i; epoch = epoch; «center_freq» = x .center })) 0 144
     → _≡_ {A = Elements} (record { a = a; i = i; raan0 = f .raan0; u0 = f .u0 }) (startElements a i x)
 unfolding startElements bestStart
@@ -77,7 +77,7 @@ module _ {second : Bool} {most : ℕ} {counts : List ℕ} {times : List ℤ} {fr
       }
 
 pub runs-refined : (second enough : Bool) (most : ℕ) (e : Elements) (x : Observations) (moments : List ℕ) (epoch : Instant) (start old log : List Float) (cells : ℕ) (scratch scratch′ : List Float) (t : Trials)
-    → moments ≡ countsAt (x .times) → epoch ≡ epochOf x
+    → moments ≡ countsAt (x .times) → epoch ≡ observedEpoch x
     → start ≡ startingSet (x .counts) (x .times) (x .freqs) (x .center) (x .rec) epoch e second
     → Runs (book (penalisedSum second (record { epoch = epoch; «center_freq» = x .center; «rec_ecef» = x .rec }) (passesOf (x .counts) moments (x .freqs)))
     (advanceOf second (record { epoch = epoch; «center_freq» = x .center; «rec_ecef» = x .rec }) (passesOf (x .counts) moments (x .freqs))) enough start most) old log cells scratch scratch′ t

@@ -35,7 +35,7 @@ pub record Arguments : Type 0 where
   pub a : Float
   pub i : Float
 
-abbrev pub arguments : List ℕ → List ℤ → List Float → List Float → Vec3 → Float → Float → Arguments
+abbrev pub arguments : (counts : List ℕ) (times : List ℤ) (freqs centers : List Float) (rec : Vec3) (a i : Float) → Arguments
 arguments counts times freqs centers rec a i =
     record { counts = counts; times = times; freqs = freqs; centers = centers; rec = rec; a = a; i = i }
 
@@ -98,15 +98,15 @@ abbrev pub workRefusals : Book → Book → ℕ → List Refusal
 workRefusals b c passes = (refusal.far-moment if farEnding (b .ended)) ∷ searchRefusals (c .ended) (c .search) passes
 
 -- all, in document 01's order: of the input, of the lent memory, and of the work
-unfoldable pub refusalOf : Arguments → Room → ℕ
-refusalOf x room = first (
+unfoldable pub fitRefusal : Arguments → Room → ℕ
+fitRefusal x room = first (
     inputRefusals (x .counts) (x .times) (x .freqs) (x .centers) (x .rec) (x .a) (x .i)
     ((refusal.short-memory if not (enough (length (x .times)) (passCount x) room))
     ∷ workRefusals (firstOf x) (bookOf x) (passCount x)))
 
 -- those before it works
-abbrev pub earlyOf : Arguments → Room → ℕ
-earlyOf x room = given.refusalOf (x .counts) (x .times) (x .freqs) (x .centers) (x .rec) (x .a) (x .i) room
+abbrev pub earlyRefusal : Arguments → Room → ℕ
+earlyRefusal x room = given.refusalOf (x .counts) (x .times) (x .freqs) (x .centers) (x .rec) (x .a) (x .i) room
 
 -- ---- the answer
 
@@ -121,12 +121,12 @@ orbitOf s times = record { a = at s 0; i = at s 1; raan0 = at s 2; u0 = at s 3; 
 abbrev pub refusedBy : ℕ → Fit
 refusedBy n = record { refusal = n; orbit = zeroOrbit; trials = 0; best = bits 0 }
 
-abbrev pub foundBy : Search → ℕ → List ℤ → Fit
-foundBy s count times = record { refusal = 0; orbit = orbitOf (s .bestSet) times; trials = count; best = s .best }
+abbrev pub fitFound : Search → ℕ → List ℤ → Fit
+fitFound s count times = record { refusal = 0; orbit = orbitOf (s .bestSet) times; trials = count; best = s .best }
 
-unfoldable pub answer : ℕ → Book → List ℤ → Fit
-answer zero b times = foundBy (b .search) (b .count) times
-answer (suc n) b times = refusedBy (suc n)
+unfoldable pub fitAnswer : ℕ → Book → List ℤ → Fit
+fitAnswer zero b times = fitFound (b .search) (b .count) times
+fitAnswer (suc n) b times = refusedBy (suc n)
 
 -- the lent outputs
 pub record Outputs : Type 0 where
@@ -139,8 +139,8 @@ pub record Outputs : Type 0 where
 abbrev pub outputs : List Float → List Float → List Float → List Float → List Float → Outputs
 outputs dts dfs df1s df2s log = record { dts = dts; dfs = dfs; df1s = df1s; df2s = df2s; log = log }
 
-abbrev pub roomOf : Outputs → List Float → Room
-roomOf o scratch =
+abbrev pub outputRoom : Outputs → List Float → Room
+outputRoom o scratch =
     given.roomOf (length (o .dts)) (length (o .dfs)) (length (o .df1s)) (length (o .df2s)) (length (o .log)) (length scratch)
 
 -- new in the first places, the places past it as they were
@@ -148,22 +148,22 @@ abbrev pub over : List Float → List Float → List Float
 over new old = new ++ drop (length new) old
 
 -- a set's biases of n passes and the logged sums, written so
-abbrev pub filled : List Float → ℕ → List Float → Outputs → Outputs
-filled s n log o =
+abbrev pub filledOutputs : List Float → ℕ → List Float → Outputs → Outputs
+filledOutputs s n log o =
     outputs (over (biases 0 s n) (o .dts)) (over (biases 1 s n) (o .dfs)) (over (biases 2 s n) (o .df1s)) (over (biases 3 s n) (o .df2s))
     (over log (o .log))
 
 -- the outputs afterwards: a refusal writes nothing
-unfoldable pub written : ℕ → Book → ℕ → Outputs → Outputs
-written zero b n o = filled (b .search .bestSet) n (b .log) o
-written (suc k) b n o = o
+unfoldable pub writtenOutputs : ℕ → Book → ℕ → Outputs → Outputs
+writtenOutputs zero b n o = filledOutputs (b .search .bestSet) n (b .log) o
+writtenOutputs (suc k) b n o = o
 
 -- the scratch afterwards: untouched by the refusals up to 21, else all zeros
-unfoldable pub cleared : ℕ → List Float → List Float
-cleared zero old = replicate (length old) (bits 0)
-cleared (suc k) old = old
+unfoldable pub clearedScratch : ℕ → List Float → List Float
+clearedScratch zero old = replicate (length old) (bits 0)
+clearedScratch (suc k) old = old
 
 pub record Fits (x : Arguments) (o o′ : Outputs) (scratch scratch′ : List Float) (r : Fit) : Type 0 where
-  pub answered : r ≡ answer (refusalOf x (roomOf o scratch)) (bookOf x) (x .times)
-  pub filled : o′ ≡ written (refusalOf x (roomOf o scratch)) (bookOf x) (passCount x) o
-  pub zeros : scratch′ ≡ cleared (earlyOf x (roomOf o scratch)) scratch
+  pub answered : r ≡ fitAnswer (fitRefusal x (outputRoom o scratch)) (bookOf x) (x .times)
+  pub filled : o′ ≡ writtenOutputs (fitRefusal x (outputRoom o scratch)) (bookOf x) (passCount x) o
+  pub zeros : scratch′ ≡ clearedScratch (earlyRefusal x (outputRoom o scratch)) scratch

@@ -35,15 +35,15 @@ abbrev pub observed : List ℕ → List ℤ → List Float → Float → Vec3 �
 observed counts times freqs center rec = record { counts = counts; times = times; freqs = freqs; center = center; rec = rec }
 
 -- the first sample's moment
-abbrev pub epochOf : Observations → Instant
-epochOf x = instantAt (getD (x .times) 0 (pos 0))
+abbrev pub observedEpoch : Observations → Instant
+observedEpoch x = instantAt (getD (x .times) 0 (pos 0))
 
-abbrev pub stationOf : Observations → Station
-stationOf x = record { epoch = epochOf x; «center_freq» = x .center; «rec_ecef» = x .rec }
+abbrev pub observedStation : Observations → Station
+observedStation x = record { epoch = observedEpoch x; «center_freq» = x .center; «rec_ecef» = x .rec }
 
 -- as the residuals take them
-abbrev pub passes : Observations → Passes
-passes x = passesOf (x .counts) (countsAt (x .times)) (x .freqs)
+abbrev pub observedPasses : Observations → Passes
+observedPasses x = passesOf (x .counts) (countsAt (x .times)) (x .freqs)
 
 -- the first two passes, with their samples
 unfoldable pub firstTwo : Observations → Observations
@@ -57,12 +57,12 @@ unfoldable pub radius : Observations → Float
 radius x = radiusEstimate (x .counts) (x .times) (x .freqs) (x .center)
 
 -- what the search holds fixed: semi-major axis and inclination, beside what is observed
-abbrev pub fixedOf : Float → Float → Observations → Fixed
-fixedOf a i x = record { «rec_ecef» = x .rec; a = a; i = i; epoch = epochOf x; «center_freq» = x .center }
+abbrev pub observedFixed : Float → Float → Observations → Fixed
+observedFixed a i x = record { «rec_ecef» = x .rec; a = a; i = i; epoch = observedEpoch x; «center_freq» = x .center }
 
 -- the best of the 144 starts on two passes x
 unfoldable pub bestStart : Float → Float → Observations → Found
-bestStart a i x = searchOf (sumOf (x .counts) (x .times) (x .freqs) (x .center ∷ x .center ∷ []) (fixedOf a i x)) 0 144
+bestStart a i x = searchOf (sumOf (x .counts) (x .times) (x .freqs) (x .center ∷ x .center ∷ []) (observedFixed a i x)) 0 144
 
 unfoldable pub startElements : Float → Float → Observations → Elements
 startElements a i x = record { a = a; i = i; raan0 = bestStart a i x .raan0; u0 = bestStart a i x .u0 }
@@ -70,8 +70,8 @@ startElements a i x = record { a = a; i = i; raan0 = bestStart a i x .raan0; u0 
 -- a refinement of the passes x from these elements, of at most n trials
 unfoldable pub refined : Bool → Bool → ℕ → Elements → Observations → Book
 refined second enough n e x =
-    book (penalisedSum second (stationOf x) (passes x)) (advanceOf second (stationOf x) (passes x)) enough
-    (startingSet (x .counts) (x .times) (x .freqs) (x .center) (x .rec) (epochOf x) e second) n
+    book (penalisedSum second (observedStation x) (observedPasses x)) (advanceOf second (observedStation x) (observedPasses x)) enough
+    (startingSet (x .counts) (x .times) (x .freqs) (x .center) (x .rec) (observedEpoch x) e second) n
 
 -- search and first refinement of two passes x: it ends at once where it has fewer residuals than its 8 parameters
 unfoldable pub refinedTwo : Float → Float → Observations → Book

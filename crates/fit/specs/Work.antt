@@ -16,7 +16,7 @@ use Rattle.trials.specs.declared.Trials.{Trials}
 use Rattle.arguments.specs.Refusals.{scratchSize}
 use Rattle.start.specs.Start.{Passes}
 use Rattle.fit.specs.Fit.{Observations, firstBook, trialBook}
-use Rattle.fit.specs.Answer.{workRefusals, foundBy, Outputs, filled}
+use Rattle.fit.specs.Answer.{workRefusals, fitFound, Outputs, filledOutputs}
 use Rattle.fit.specs.declared.Fit.{Fit}
 use Rattle.fit.specs.declared.Solved.{Solved}
 
@@ -66,5 +66,5 @@ pub record Holds (count n : ℕ) (times : List ℤ) (sums : List Float) (o : Out
 
 -- the answer of these trials, and the outputs
 pub record Puts (t : Trials) (n : ℕ) (times : List ℤ) (sums : List Float) (o o′ : Outputs) (r : Fit) : Type 0 where
-  pub answered : r ≡ foundBy (stateSearch (t .state)) (t .count) times
-  pub written : o′ ≡ filled (t .state .«best_params») n (take (t .count) sums) o
+  pub answered : r ≡ fitFound (stateSearch (t .state)) (t .count) times
+  pub written : o′ ≡ filledOutputs (t .state .«best_params») n (take (t .count) sums) o

@@ -16,10 +16,10 @@ use Rattle.linear.specs.declared.Solution.{Solution}
 use Rattle.linear.specs.declared.Solution.the-variants.{Found, Refused}
 use Rattle.linear.proofs.Answers.{worked}
 use Rattle.normal.specs.Normal.{Grid, tableEntry, jtjOf, jtrOf}
-use Rattle.normal.specs.Step.{Outcome, next, refused, damped, scales, scaled, divided, subtracted, held, largestStep, moveBy, finish, solveStep, stepOf}
+use Rattle.normal.specs.Step.{Outcome, next, refused, damped, scales, scaled, divided, subtracted, held, largestStep, steppedBy, finish, solveStep, dampedStep}
 
 -- x moved to x₁, held to x₂, and the step's size
-pub taken : (n : ℕ) (delta x x₁ x₂ : List Float) (size : Float) → x₁ ≡ subtracted n delta x → x₂ ≡ held x₁ → size ≡ largestStep n x₂ delta → next x₂ size ≡ moveBy n x delta
+pub taken : (n : ℕ) (delta x x₁ x₂ : List Float) (size : Float) → x₁ ≡ subtracted n delta x → x₂ ≡ held x₁ → size ≡ largestStep n x₂ delta → next x₂ size ≡ steppedBy n x delta
 taken n delta x x₁ x₂ size e₁ e₂ es = rw (es, e₂, e₁)
 
 module _ (n : ℕ) (a v o o′ s s′ : List Float) (r : Solution) (grid : Grid n n a) (ev : length v ≡ n) (eo : length o ≡ n) (room : n * (n + 1) ≤ length s)
@@ -46,11 +46,11 @@ module _ (n : ℕ) (a v o o′ s s′ : List Float) (r : Solution) (grid : Grid 
       go (some y) q = cc
 
   -- the new set y, from x by the solution divided by the scales, or by the solution
-  pub moved-scaled : (second : Bool) (f delta x y : List Float) (size : Float) → r ≡ Found → second ≡ true → delta ≡ divided n f o′ → next y size ≡ moveBy n x delta
+  pub moved-scaled : (second : Bool) (f delta x y : List Float) (size : Float) → r ≡ Found → second ≡ true → delta ≡ divided n f o′ → next y size ≡ steppedBy n x delta
       → next y size ≡ finish second n f x (solutionOf n a v)
   moved-scaled second f delta x y size e es ed em = em ∙ rw (found e, es, ed)
 
-  pub moved-plain : (second : Bool) (f x y : List Float) (size : Float) → r ≡ Found → second ≡ false → next y size ≡ moveBy n x o′ → next y size ≡ finish second n f x (solutionOf n a v)
+  pub moved-plain : (second : Bool) (f x y : List Float) (size : Float) → r ≡ Found → second ≡ false → next y size ≡ steppedBy n x o′ → next y size ≡ finish second n f x (solutionOf n a v)
   moved-plain second f x y size e es em = em ∙ rw (found e, es)
 
 -- the scales f of a, the system a′ x = v′ divided by them, and what its solution led to
@@ -70,6 +70,6 @@ through-plain second n a v f x w es e = rw es (rw es at e ∙ unscaled-same n f 
 
 -- the sums a and v of the table t, a damped to a′, and what the solution led to
 pub through-sums : (second : Bool) (m n : ℕ) (lambda : Float) (t r a a′ v x : List Float) (w : Outcome) → a ≡ jtjOf n (tableEntry n t) m → v ≡ jtrOf n (tableEntry n t) (at r) m
-    → a′ ≡ damped n lambda a → w ≡ solveStep second n a′ v x → w ≡ stepOf second m n (tableEntry n t) (at r) lambda x
-unfolding stepOf
+    → a′ ≡ damped n lambda a → w ≡ solveStep second n a′ v x → w ≡ dampedStep second m n (tableEntry n t) (at r) lambda x
+unfolding dampedStep
 through-sums second m n lambda t r a a′ v x w ea ev ed e = rw (e, ed, ea, ev)

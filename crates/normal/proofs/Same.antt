@@ -8,7 +8,7 @@ use native.Mathlib.Omega.{arith}
 use lib.Ieee.{Float}
 use Rattle.loops.specs.Loop.{turns, for}
 use Rattle.normal.specs.Normal.{addProduct, addProducts, addRow, addRight, addRights, jtjOf, jtrOf}
-use Rattle.normal.specs.Step.{stepOf}
+use Rattle.normal.specs.Step.{dampedStep}
 
 -- a loop whose bodies agree where it runs
 turns-cong : {S : Type 0} (f h : ℕ → S → S) (k i b : ℕ) (s : S) → i + k ≡ b → ((j : ℕ) (u : S) → i ≤ j → j < b → f j u ≡ h j u) → turns f k i s ≡ turns h k i s
@@ -52,6 +52,6 @@ module _ (m n : ℕ) (E F : ℕ → ℕ → Float) (R Q : ℕ → Float) (same :
   unfolding jtrOf
   jtr-same = for-cong (addRights n E R) (addRights n F Q) m _ (λ row u l. rights-same row u l)
 
-  pub step-same : (second : Bool) (lambda : Float) (x : List Float) → stepOf second m n E R lambda x ≡ stepOf second m n F Q lambda x
-  unfolding stepOf
+  pub step-same : (second : Bool) (lambda : Float) (x : List Float) → dampedStep second m n E R lambda x ≡ dampedStep second m n F Q lambda x
+  unfolding dampedStep
   step-same second lambda x = rw (jtj-same, jtr-same)

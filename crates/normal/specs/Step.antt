@@ -91,8 +91,8 @@ pub data Outcome : Type 0 where
   refused : ℕ → Outcome
 
 -- from the set x by the step delta
-abbrev pub moveBy : ℕ → List Float → List Float → Outcome
-moveBy n x delta = let y = held (subtracted n delta x) in next y (largestStep n y delta)
+abbrev pub steppedBy : ℕ → List Float → List Float → Outcome
+steppedBy n x delta = let y = held (subtracted n delta x) in next y (largestStep n y delta)
 
 -- by the solution, where there is one, divided by the scales f in the second refinement
 abbrev pub unscaled : Bool → ℕ → List Float → List Float → List Float
@@ -100,7 +100,7 @@ unscaled second n f s = cond second (divided n f s) s
 
 abbrev pub finish : Bool → ℕ → List Float → List Float → Option (List Float) → Outcome
 finish second n f x none = refused refusal.small-pivot
-finish second n f x (some s) = moveBy n x (unscaled second n f s)
+finish second n f x (some s) = steppedBy n x (unscaled second n f s)
 
 -- with the damped matrix a and the right side v
 unfoldable pub solveStep : Bool → ℕ → List Float → List Float → List Float → Outcome
@@ -109,5 +109,5 @@ solveStep second n a v x =
     finish second n f x (cond second (solutionOf n (scaled n f a) (divided n f v)) (solutionOf n a v))
 
 -- of m rows
-unfoldable pub stepOf : Bool → ℕ → ℕ → (ℕ → ℕ → Float) → (ℕ → Float) → Float → List Float → Outcome
-stepOf second m n entry residual lambda x = solveStep second n (damped n lambda (jtjOf n entry m)) (jtrOf n entry residual m) x
+unfoldable pub dampedStep : (second : Bool) (m n : ℕ) (entry : ℕ → ℕ → Float) (residual : ℕ → Float) (lambda : Float) (x : List Float) → Outcome
+dampedStep second m n entry residual lambda x = solveStep second n (damped n lambda (jtjOf n entry m)) (jtrOf n entry residual m) x

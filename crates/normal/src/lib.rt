@@ -25,10 +25,10 @@ ghost use Rattle.normal.specs.Step.{
   relative,
   largestStep,
   next,
-  moveBy,
+  steppedBy,
   finish,
   solveStep,
-  stepOf,
+  dampedStep,
 };
 ghost use Rattle.normal.specs.Answers.{outcome, outcomeOf};
 use residuals::PARAMS;
@@ -268,7 +268,7 @@ fn largest_step(x: &[f64], delta: &[f64], n: usize) -> f64
 // x moved by delta, and the size of the step.
 fn take_step(delta: &[f64], n: usize, x: &mut [f64]) -> f64
     requires { ⌜ (length (now delta) ≡ n) × (length (now x) ≡ 68) × (4 ≤ n) × (n ≤ 68) ⌝ }
-    ensures { λ r. ⌜ next (now (x .exit)) r ≡ moveBy n (now (x .entry)) (now (delta .entry)) ⌝ }
+    ensures { λ r. ⌜ next (now (x .exit)) r ≡ steppedBy n (now (x .entry)) (now (delta .entry)) ⌝ }
 {
     subtract(x, delta, n);
     hold(x);
@@ -346,7 +346,7 @@ fn table_step(
     room: &mut [f64],
 ) -> Step
     requires { ⌜ Grid (length (now r)) n (now table) × Grid n n (now a) × (length (now v) ≡ n) × (length (now f) ≡ n) × (length (now delta) ≡ n) × (length (now x) ≡ 68) × (4 ≤ n) × (n * (n + 1) ≤ length (now room)) ⌝ }
-    ensures { λ s. ⌜ outcome s (now (x .exit)) ≡ stepOf second (length (now (r .entry))) n (tableEntry n (now (table .entry))) (at (now (r .entry))) lambda (now (x .entry)) ⌝ }
+    ensures { λ s. ⌜ outcome s (now (x .exit)) ≡ dampedStep second (length (now (r .entry))) n (tableEntry n (now (table .entry))) (at (now (r .entry))) lambda (now (x .entry)) ⌝ }
 {
     sum_jt_j(table, r.len(), n, a);
     sum_jt_r(table, r, n, v);
@@ -370,7 +370,7 @@ pub fn damped_step(
     params: [f64; PARAMS],
 ) -> Stepped
     requires { ⌜ Grid (length (now r)) n (now table) × (4 ≤ n) ⌝ }
-    ensures { λ s. ⌜ outcomeOf s ≡ stepOf second (length (now (r .entry))) n (tableEntry n (now (table .entry))) (at (now (r .entry))) lambda params ⌝ }
+    ensures { λ s. ⌜ outcomeOf s ≡ dampedStep second (length (now (r .entry))) n (tableEntry n (now (table .entry))) (at (now (r .entry))) lambda params ⌝ }
 {
     let mut jt_j = [0.0; 4624];
     let mut jt_r = [0.0; PARAMS];

@@ -18,7 +18,7 @@ use Rattle.residuals.specs.declared.Sum.{Sum}
 use Rattle.residuals.specs.declared.Sum.the-variants.{Value}
 use Rattle.residuals.proofs.Laws.{summed-known}
 use Rattle.normal.specs.Normal.{tableEntry}
-use Rattle.normal.specs.Step.{Outcome, refused, stepOf}
+use Rattle.normal.specs.Step.{Outcome, refused, dampedStep}
 use Rattle.normal.proofs.Same.{step-same}
 use Rattle.refine.specs.Jacobian.{epsOf, residualAt, entryOf, columnOf}
 use Rattle.refine.specs.Advance.{advanceOf, cellsOf, Ready}
@@ -99,11 +99,11 @@ module _ (second : Bool) (g : Station) (d : Passes) (turns x r : List Float) (ro
 
     -- s is the scratch with the table at its front
     pub advance-done : (s rest : List Float) (w : Outcome) → k ≡ 0 → s ≡ u ++ rest
-        → w ≡ stepOf second (length r) n (tableEntry n (take (length r * n) s)) (at r) lambda x → w ≡ advanceOf second g d lambda x
+        → w ≡ dampedStep second (length r) n (tableEntry n (take (length r * n) s)) (at r) lambda x → w ≡ advanceOf second g d lambda x
     unfolding advanceOf
     advance-done s rest w e es ew =
         let tab = table-done (epsOf second) (residuals second g d) x r (length r) n (ready .known) k t u l e made in
         let front : take (length r * n) s ≡ u = rw es (take-at u rest (length r * n) (tab .long)) in
-        let stepped : stepOf second (length r) n (tableEntry n u) (at r) lambda x ≡ stepOf second (length r) n (entryOf (epsOf second) (residuals second g d) x) (residualAt (residuals second g d) x) lambda x
+        let stepped : dampedStep second (length r) n (tableEntry n u) (at r) lambda x ≡ dampedStep second (length r) n (entryOf (epsOf second) (residuals second g d) x) (residualAt (residuals second g d) x) lambda x
         = step-same (length r) n (tableEntry n u) (entryOf (epsOf second) (residuals second g d) x) (at r) (residualAt (residuals second g d) x) (tab .holds) (λ row h. residual-is row) second lambda x in
         rw (← en, tab .near, ← ready .rows) (rw front at ew ∙ stepped)

@@ -14,7 +14,7 @@ use Rattle.loops.specs.Loop.{for, next, tried, try}
 use Rattle.loops.proofs.Laws.{for-ind}
 use Rattle.linear.specs.Elimination.{at}
 use Rattle.residuals.specs.Answers.{Filled}
-use Rattle.refine.specs.Jacobian.{perturbedOf, quotient, isFar, entryOf, anyFar, putEntry, putColumn, columnOf}
+use Rattle.refine.specs.Jacobian.{perturbedOf, quotient, isFarSet, entryOf, anyFar, putEntry, putColumn, columnOf}
 use Rattle.normal.proofs.Places.{place-below, apart}
 use Rattle.refine.proofs.Columns.{refused-none}
 
@@ -86,7 +86,7 @@ module _ (eps : ℕ → Float) (res : List Float → Option (List Float)) (x r :
 
   turned : (w : Option (List Float)) (k i : ℕ) (t : List Float) → res (perturbedOf x i (eps i)) ≡ w → i < n → Upto i t
       → ((u : List Float) → Upto (i + 1) u → Result (tried (columnOf eps res x r m n) k (i + 1) u) (anyFar eps res x k (i + 1)))
-      → Result (next (putColumn m n (eps i) i r w t) (tried (columnOf eps res x r m n) k (i + 1))) (isFar w || anyFar eps res x k (i + 1))
+      → Result (next (putColumn m n (eps i) i r w t) (tried (columnOf eps res x r m n) k (i + 1))) (isFarSet w || anyFar eps res x k (i + 1))
   turned none k i t e h p more = refused
   turned (some c) k i t e h p more = more _ (column-made i c t h e p)
 

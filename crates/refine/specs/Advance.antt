@@ -10,7 +10,7 @@ use Rattle.refusal.specs.Numbers as refusal
 use Rattle.residuals.specs.Samples.{Passes, Samples}
 use Rattle.residuals.specs.Residuals.{placeOf, rowsOf, residuals}
 use Rattle.residuals.specs.declared.Station.{Station}
-use Rattle.normal.specs.Step.{Outcome, refused, stepOf}
+use Rattle.normal.specs.Step.{Outcome, refused, dampedStep}
 use Rattle.normal.specs.Answers.{outcomeOf}
 use Rattle.normal.specs.declared.Stepped.{Stepped}
 use Rattle.refine.specs.Jacobian.{epsOf, residualAt, entryOf, anyFar}
@@ -22,7 +22,7 @@ advanceOf second g d lambda x =
     let res = residuals second g d in
     let m = rowsOf second (length (d .times)) (length (d .counts)) in
     let n = placeOf second (length (d .counts)) in
-    cond (anyFar eps res x n 0) (refused refusal.far-moment) (stepOf second m n (entryOf eps res x) (residualAt res x) lambda x)
+    cond (anyFar eps res x n 0) (refused refusal.far-moment) (dampedStep second m n (entryOf eps res x) (residualAt res x) lambda x)
 
 -- what a step asks: the fit's samples, the set's residuals r, and room for the table
 pub record Ready (second : Bool) (g : Station) (d : Passes) (turns x r : List Float) (room : ℕ) : Type 0 where

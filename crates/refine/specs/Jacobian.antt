@@ -67,9 +67,9 @@ abbrev pub numbers : Option (List Float) → List Float
 numbers none = []
 numbers (some r) = r
 
-abbrev pub isFar : Option (List Float) → Bool
-isFar none = true
-isFar (some r) = false
+abbrev pub isFarSet : Option (List Float) → Bool
+isFarSet none = true
+isFarSet (some r) = false
 
 -- the residual of the set x in a row, where res gives a set's residuals
 unfoldable pub residualAt : (List Float → Option (List Float)) → List Float → ℕ → Float
@@ -83,16 +83,16 @@ module _ (eps : ℕ → Float) (res : List Float → Option (List Float)) (x : L
   -- whether one of the sets with a parameter moved, of n parameters from k on, has a moment too far off: refusal 23
   unfoldable pub anyFar : ℕ → ℕ → Bool
   anyFar zero k = false
-  anyFar (suc n) k = isFar (res (perturbedOf x k (eps k))) || anyFar n (k + 1)
+  anyFar (suc n) k = isFarSet (res (perturbedOf x k (eps k))) || anyFar n (k + 1)
 
 -- ---- the table as the code makes it, column by column: m rows of n numbers, row by row. proofs/Table.antt: it holds the entries.
 
-unfoldable pub putEntry : ℕ → Float → ℕ → List Float → List Float → ℕ → List Float → List Float
+unfoldable pub putEntry : (n : ℕ) (e : Float) (k : ℕ) (r c : List Float) (row : ℕ) (t : List Float) → List Float
 putEntry n e k r c row t = set t (row * n + k) (quotient e (at c row) (at r row))
 
-abbrev pub putColumn : ℕ → ℕ → Float → ℕ → List Float → Option (List Float) → List Float → Option (List Float)
+abbrev pub putColumn : (m n : ℕ) (e : Float) (k : ℕ) (r : List Float) (c : Option (List Float)) (t : List Float) → Option (List Float)
 putColumn m n e k r none t = none
 putColumn m n e k r (some c) t = some (for 0 m (putEntry n e k r c) t)
 
-unfoldable pub columnOf : (ℕ → Float) → (List Float → Option (List Float)) → List Float → List Float → ℕ → ℕ → ℕ → List Float → Option (List Float)
+unfoldable pub columnOf : (eps : ℕ → Float) (res : List Float → Option (List Float)) (x r : List Float) (m n k : ℕ) (t : List Float) → Option (List Float)
 columnOf eps res x r m n k t = putColumn m n (eps k) k r (res (perturbedOf x k (eps k))) t
