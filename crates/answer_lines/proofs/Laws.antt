@@ -1,6 +1,6 @@
 -- Walking a line, and cutting parts out of it. Assumes nothing.
 use mathlib.Core.Path.{_≡_, refl, sym, ap, _∙_, subst}
-use mathlib.Core.Bool.{Bool, true, false}
+use mathlib.Core.Bool.{Bool, true, false, cond}
 use mathlib.Core.List.{List, _∷_}
 use Prim.Native.Nat.{ℕ, suc, _+_, _-_, _*_, _/_, _≤_, _<_}
 use native.Mathlib.Nat.{le-of-eq}
@@ -16,7 +16,7 @@ use mir.ValLaws.{toZ-ofZ, ofZ-toZ}
 use borrow.Author.Tests.{eq-eqb, ne-eqb, eqb-true, eqb-false, lt-ltb, le-ltb}
 use Rattle.laws.proofs.Signed.{difference, small, difference-fits}
 use Rattle.laws.proofs.Lists.{rest}
-use Rattle.answer_lines.specs.Lines.{firstPlace, beginsWith, askedFields, answerFields, fieldsFrom, afterList, fieldAt, floatField, countField, signedField, every, sameList, FilledBy, ReadsSet}
+use Rattle.answer_lines.specs.Lines.{firstPlace, beginsWith, occurs, askedFields, answerFields, fieldsFrom, afterList, fieldAt, floatField, countField, signedField, every, sameList, FilledBy, ReadsSet}
 
 here : {A : Type 0} (l : List A) (i : ℕ) (d : A) → i < length l → drop i l ≡ getD l i d ∷ drop (i + 1) l
 here l i d h = let e : suc i ≡ i + 1 = omega arith in drop-cons l i d h ∙ ap (λ (k : ℕ). getD l i d ∷ drop k l) e
@@ -35,6 +35,23 @@ module _ (b : ℕ) (l : List ℕ) (i : ℕ) where
   pub place-end : length l ≤ i → firstPlace b (drop i l) ≡ 0
   unfolding firstPlace
   place-end h = ap (firstPlace b) (drop-of-length-le l h)
+
+-- ---- a name in a table
+
+module _ (name table : List ℕ) (i : ℕ) (h : i < length table) where
+  at-place : occurs name (drop i table) ≡ cond (beginsWith name (drop i table)) true (occurs name (drop (i + 1) table))
+  unfolding occurs
+  at-place = rw (here table i 0 h)
+
+  pub occurs-here : beginsWith name (drop i table) ≡ true → occurs name (drop i table) ≡ true
+  occurs-here e = at-place ∙ rw e
+
+  pub occurs-next : beginsWith name (drop i table) ≡ false → occurs name (drop i table) ≡ occurs name (drop (i + 1) table)
+  occurs-next e = at-place ∙ rw e
+
+pub occurs-end : (name table : List ℕ) (i : ℕ) → length table ≤ i → occurs name (drop i table) ≡ false
+unfolding occurs
+occurs-end name table i h = rw (drop-of-length-le table h)
 
 -- ---- a name at the beginning
 

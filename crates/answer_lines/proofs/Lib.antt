@@ -2,3 +2,4 @@
 pub mod Digits
 pub mod Meaning
 pub mod Laws
+pub mod Sized

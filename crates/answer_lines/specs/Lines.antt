@@ -23,6 +23,19 @@ beginsWith [] line = true
 beginsWith (c ∷ name) [] = false
 beginsWith (c ∷ name) (b ∷ line) = cond (eqb b c) (beginsWith name line) false
 
+-- the word that the line begins with
+unfoldable pub lineWord : List ℕ → List ℕ
+lineWord line = take (firstPlace 32 line) line
+
+-- the name stands somewhere in the table
+unfoldable pub occurs : List ℕ → List ℕ → Bool
+occurs name [] = false
+occurs name (c ∷ table) = cond (beginsWith name (c ∷ table)) true (occurs name table)
+
+-- no line with another word agrees
+pub record OnlyWords (table line : List ℕ) (agrees : Bool) : Type 0 where
+  pub other : occurs (lineWord line) table ≡ false → agrees ≡ false
+
 -- the fields that are asked: from the first blank up to the `=`
 unfoldable pub askedFields : List ℕ → List ℕ
 askedFields line = let before = take (firstPlace 61 line) line in drop (firstPlace 32 before) before

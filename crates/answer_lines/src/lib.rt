@@ -5,11 +5,13 @@ pub mod hex;
 ghost use mathlib.Core.Path.{_≡_};
 ghost use Prim.Native.Nat.{_+_, _%_, _≤_};
 ghost use lib.ListN.{length, take, drop};
-ghost use lib.Ieee.{nan};
+ghost use lib.Dec.{eqb};
+ghost use lib.Ieee.{nan, binary64, toBits};
 ghost use lib.IntN.{pos};
 ghost use mir.Syntax.{w64};
 ghost use mir.Val.{ofZ};
-ghost use Rattle.answer_lines.specs.Lines.{firstPlace, beginsWith, askedFields, answerFields, fieldsFrom, afterList, fieldAt, floatField, countField, signedField, packedByte, byteItems, countItems, signedItems, floatItems, sameBytes, sameCounts, sameSigned, sameFloats, FilledBy, freqList, ReadsSet};
+ghost use Rattle.answer_lines.specs.Lines.{firstPlace, beginsWith, lineWord, occurs, askedFields, answerFields, fieldsFrom, afterList, fieldAt, floatField, countField, signedField, packedByte, byteItems, countItems, signedItems, floatItems, sameBytes, sameCounts, sameSigned, sameFloats, FilledBy, freqList, ReadsSet};
+use frame::Vec3;
 use moment::Moment;
 
 // How many bytes stand before the first `byte`: all, where there is none.
@@ -49,6 +51,28 @@ pub fn begins_with(line: &[u8], name: &[u8]) -> bool
         i += 1;
     }
     true
+}
+
+// The word that the line begins with.
+pub fn word(line: &[u8]) -> &[u8]
+    ensures { λ r. ⌜ now r ≡ lineWord (now (line .entry)) ⌝ }
+{
+    let end = find(line, b' ');
+    &line[..end]
+}
+
+// Whether the name stands anywhere in the table.
+pub fn occurs_in(table: &[u8], name: &[u8]) -> bool
+    ensures { λ r. ⌜ r ≡ occurs (now (name .entry)) (now (table .entry)) ⌝ }
+{
+    let mut i = 0;
+    while i < table.len() {
+        if begins_with(after(table, i), name) {
+            return true;
+        }
+        i += 1;
+    }
+    false
 }
 
 // The fields that are asked.
@@ -138,6 +162,31 @@ pub fn moment(fields: &[u8]) -> Moment
         seconds: signed(fields, 0),
         nanos: (field(fields, 1) % 4294967296) as u32,
     }
+}
+
+// The place or velocity of the first three fields.
+pub fn vec3(fields: &[u8]) -> Vec3
+    ensures { λ r. ⌜ r ≡ record { x = floatField (now (fields .entry)) 0; y = floatField (now (fields .entry)) 1; z = floatField (now (fields .entry)) 2 } ⌝ }
+{
+    Vec3 {
+        x: float(fields, 0),
+        y: float(fields, 1),
+        z: float(fields, 2),
+    }
+}
+
+// Whether field k is this float: any NaN is any other, zeros keep their sign.
+pub fn float_is(fields: &[u8], k: usize, x: f64) -> bool
+    ensures { λ r. ⌜ r ≡ eqb (fieldAt (now (fields .entry)) k) (toBits binary64 x) ⌝ }
+{
+    field(fields, k) == hex::bits(x)
+}
+
+// Whether an answer begins with this refusal, 0 being none.
+pub fn refused(answer: &[u8], refusal: u32) -> bool
+    ensures { λ r. ⌜ r ≡ eqb (fieldAt (now (answer .entry)) 0) refusal ⌝ }
+{
+    field(answer, 0) == refusal as u64
 }
 
 // The last 32 bits of field k.

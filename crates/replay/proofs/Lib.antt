@@ -1,4 +1,3 @@
 -- What the proofs of the functions share.
 pub mod Counting
 pub mod Reporting
-pub mod Sized

@@ -1,6 +1,6 @@
 // Pass files, and pass sets as stored bytes.
 use crate::rooms;
-use crate::values;
+use crate::unpacked;
 use passes::file;
 use passes::file::PassFile;
 
@@ -24,7 +24,7 @@ fn same_file(bytes: &[u8], r: PassFile, times: &[i64], freqs: &[f64], fields: &[
         return false;
     }
     let rest = answer_lines::from(list, 1 + (name.len() + 7) / 8);
-    if !values::float_is(rest, 0, r.center_freq) {
+    if !answer_lines::float_is(rest, 0, r.center_freq) {
         return false;
     }
     same_samples(answer_lines::from(rest, 1), r.count, times, freqs)
@@ -35,7 +35,7 @@ fn pass_file(bytes: &[u8], answer: &[u8]) -> bool {
     let mut freqs = rooms::freqs();
     let r = file::read_pass_file(bytes, &mut times, &mut freqs);
     let refusal = r.refusal;
-    if !values::refused(answer, refusal) {
+    if !answer_lines::refused(answer, refusal) {
         return false;
     }
     if refusal != 0 {
@@ -46,11 +46,11 @@ fn pass_file(bytes: &[u8], answer: &[u8]) -> bool {
 
 // Whether the fields are: refusal, start and end of the name, name seen, centre, number of samples; after a refusal too.
 fn same_record(fields: &[u8], r: PassFile) -> bool {
-    values::refused(fields, r.refusal)
+    answer_lines::refused(fields, r.refusal)
         && answer_lines::field(fields, 1) == r.name_start as u64
         && answer_lines::field(fields, 2) == r.name_end as u64
         && answer_lines::field(fields, 3) == r.name_seen as u64
-        && values::float_is(fields, 4, r.center_freq)
+        && answer_lines::float_is(fields, 4, r.center_freq)
         && answer_lines::field(fields, 5) == r.count as u64
 }
 
@@ -92,7 +92,7 @@ fn pass_set(bytes: &[u8], answer: &[u8]) -> bool {
     let mut freqs = rooms::freqs();
     let r = stored::load(bytes, &mut counts, &mut times, &mut freqs);
     let refusal = r.refusal;
-    if !values::refused(answer, refusal) {
+    if !answer_lines::refused(answer, refusal) {
         return false;
     }
     if refusal != 0 {
@@ -115,7 +115,7 @@ fn of_bytes(line: &[u8], k: usize) -> bool {
     let asked = answer_lines::asked(line);
     let answer = answer_lines::answer(line);
     let packed = answer_lines::from(asked, k);
-    values::unpack(packed, &mut room);
+    unpacked::unpack(packed, &mut room);
     let bytes = answer_lines::first_bytes(&room, answer_lines::field(packed, 0));
     if answer_lines::begins_with(line, b"file ") {
         return pass_file(bytes, answer);

@@ -1,5 +1,5 @@
 // The element lines and their checksums.
-use crate::values;
+use crate::unpacked;
 use solution::SolvedOrbit;
 
 // The orbit of six fields: elements and epoch.
@@ -9,7 +9,7 @@ fn orbit_at(fields: &[u8]) -> SolvedOrbit {
         i: answer_lines::float(fields, 1),
         raan0: answer_lines::float(fields, 2),
         u0: answer_lines::float(fields, 3),
-        epoch: values::moment_at(fields, 4),
+        epoch: answer_lines::moment(answer_lines::from(fields, 4)),
     }
 }
 
@@ -19,7 +19,7 @@ fn same_lines(name: &[u8], orbit: SolvedOrbit, answer: &[u8]) -> bool {
     let r = tle::format_tle_catalog(name, orbit, &mut out);
     let refusal = r.refusal;
     let n = r.length;
-    if !values::refused(answer, refusal) {
+    if !answer_lines::refused(answer, refusal) {
         return false;
     }
     if refusal != 0 {
@@ -30,7 +30,7 @@ fn same_lines(name: &[u8], orbit: SolvedOrbit, answer: &[u8]) -> bool {
 
 fn lines(asked: &[u8], answer: &[u8]) -> bool {
     let mut room = [0u8; 40];
-    values::unpack(asked, &mut room);
+    unpacked::unpack(asked, &mut room);
     let name = answer_lines::first_bytes(&room, answer_lines::field(asked, 0));
     let orbit = orbit_at(answer_lines::from(asked, 1 + (name.len() + 7) / 8));
     same_lines(name, orbit, answer)
@@ -38,7 +38,7 @@ fn lines(asked: &[u8], answer: &[u8]) -> bool {
 
 fn checksum(asked: &[u8], answer: &[u8]) -> bool {
     let mut room = [0u8; 100];
-    values::unpack(asked, &mut room);
+    unpacked::unpack(asked, &mut room);
     let line = answer_lines::first_bytes(&room, answer_lines::field(asked, 0));
     answer_lines::field(answer, 0) == tle::tle_checksum(line) as u64
 }

@@ -1,17 +1,10 @@
 // Asks stored answers again: standard input is a list of lines, each a question with its answer (`crates/answer_lines`), which
 // `oracle/store` makes. A line `not ..` has an answer that was changed and must differ, so that a comparison which finds everything the
 // same is found out; the last line, `end ..`, says how many lines stand before it, so that a list which is cut is found out.
-mod digits;
 mod files;
-mod fits;
 mod lines;
-mod motion;
-mod numbers;
-mod refinements;
 mod rooms;
-mod sums;
-mod systems;
-mod values;
+mod unpacked;
 
 ghost use mathlib.Core.Path.{_≡_};
 ghost use Prim.Native.Nat.{_+_, _<_};
@@ -33,15 +26,10 @@ struct Tally {
 }
 
 fn agrees(line: &[u8]) -> bool {
-    numbers::agrees(line)
-        || digits::agrees(line)
-        || motion::agrees(line)
-        || systems::agrees(line)
-        || lines::agrees(line)
+    lines::agrees(line)
         || files::agrees(line)
-        || sums::agrees(line)
-        || refinements::agrees(line)
-        || fits::agrees(line)
+        || replay_numbers::agrees(line)
+        || replay_fits::agrees(line)
 }
 
 fn show(line: &[u8]) {

@@ -1,5 +1,5 @@
 use lib.Ieee.{binary64, ofBits}
-use Rattle.replay.proofs.Sized.{sized}
+use Rattle.answer_lines.proofs.Sized.{sized}
 use Rattle.replay.proofs.rooms.freqs.Statement.{statement}
 use Rattle.replay.proofs.rooms.freqs.Tie as tie
 

@@ -1,5 +1,5 @@
 use Prim.Native.Nat.{ℕ}
-use Rattle.replay.proofs.Sized.{sized}
+use Rattle.answer_lines.proofs.Sized.{sized}
 use Rattle.replay.proofs.rooms.list.Statement.{statement}
 use Rattle.replay.proofs.rooms.list.Tie as tie
 

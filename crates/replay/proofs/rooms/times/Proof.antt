@@ -1,5 +1,5 @@
 use lib.IntN.{pos}
-use Rattle.replay.proofs.Sized.{sized}
+use Rattle.answer_lines.proofs.Sized.{sized}
 use Rattle.replay.proofs.rooms.times.Statement.{statement}
 use Rattle.replay.proofs.rooms.times.Tie as tie
 
