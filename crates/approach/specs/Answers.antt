@@ -30,7 +30,7 @@ setRefusals counts times freqs centers rest =
     (moment-range if not (timesInRange times)) ∷ (sizes if not (sizesAgree counts (length times) (length freqs) (length centers))) ∷ rest
 
 -- 4: the epoch is outside 1957 to 2057
-abbrev pub inputRefusals : Moment → List ℕ → List ℤ → List Float → List Float → List Refusal → List Refusal
+abbrev pub inputRefusals : (epoch : Moment) (counts : List ℕ) (times : List ℤ) (freqs centers : List Float) (rest : List Refusal) → List Refusal
 inputRefusals epoch counts times freqs centers rest = (moment-range if not (taken epoch)) ∷ setRefusals counts times freqs centers rest
 
 unfoldable pub setRefusalOf : List ℕ → List ℤ → List Float → List Float → ℕ
@@ -40,7 +40,7 @@ unfoldable pub refusalOf : Moment → List ℕ → List ℤ → List Float → L
 refusalOf epoch counts times freqs centers = first (inputRefusals epoch counts times freqs centers [])
 
 -- 21: the output is shorter than the passes
-unfoldable pub pcaRefusalOf : Moment → List ℕ → List ℤ → List Float → List Float → ℕ → ℕ
+unfoldable pub pcaRefusalOf : (epoch : Moment) (counts : List ℕ) (times : List ℤ) (freqs centers : List Float) (room : ℕ) → ℕ
 pcaRefusalOf epoch counts times freqs centers room = first (inputRefusals epoch counts times freqs centers ((short-memory if ltb room (length counts)) ∷ []))
 
 -- the epoch as the inner functions count it

@@ -67,7 +67,7 @@ module _ (e : Elements) (epoch : Instant) (rec : Vec3) where
   predPcaTime center times freqs = cond (eqb (length freqs) 0) epoch (closestOf (obsPcaTime times freqs center))
 
   -- pass p's, in nanoseconds since 1970, at place p
-  unfoldable pub putPcaOf : Float → List ℕ → List ℤ → List Float → ℕ → List ℤ → List ℤ
+  unfoldable pub putPcaOf : (center : Float) (counts : List ℕ) (times : List ℤ) (freqs : List Float) (p : ℕ) (out : List ℤ) → List ℤ
   putPcaOf center counts times freqs p out = set out p (sinceOf (predPcaTime center (passOf counts p times) (passOf counts p freqs)))
 
   -- every pass's, by the first pass's centre

@@ -50,7 +50,7 @@ module _ (e : Elements) (epoch : Instant) (rec : Vec3) where
       predictedOf (e .a) (e .i) (e .raan0) (e .u0) (nanosOf (epoch .secs) (epoch .nanos)) (nanosOf (t .secs) (t .nanos)) (turnAt (t .secs) (t .nanos)) dt (bits 0) (bits 0) center rec
 
   -- sample k's: its frequency less centre and prediction, squared
-  unfoldable pub sampleOf : Float → Float → List ℤ → List Float → ℕ → Float → Float
+  unfoldable pub sampleOf : (center dt : Float) (times : List ℤ) (freqs : List Float) (k : ℕ) (rss : Float) → Float
   sampleOf center dt times freqs k rss =
       let diff = getD freqs k nan ⊖ (center ⊕ frequencyOf (predictionAt center dt (instantAt (getD times k (pos 0))))) in
       rss ⊕ diff ⊗ diff
@@ -69,7 +69,7 @@ module _ (e : Elements) (epoch : Instant) (rec : Vec3) where
       cond (eqb (length freqs) 0) rss (samplesOf center dt times freqs (rss ⊕ hundred ⊗ dt ⊗ dt))
 
   -- of pass p of a set
-  unfoldable pub passAddOf : Float → Float → List ℕ → List ℤ → List Float → ℕ → Float → Float
+  unfoldable pub passAddOf : (first center : Float) (counts : List ℕ) (times : List ℤ) (freqs : List Float) (p : ℕ) (rss : Float) → Float
   passAddOf first center counts times freqs p rss = passSumOf first center (passOf counts p times) (passOf counts p freqs) rss
 
   unfoldable pub rssOf : Float → List ℕ → List ℤ → List Float → List Float → Float
@@ -93,11 +93,11 @@ unfolding eps ofBits round
 eps-bits = refl
 
 -- the sum by the orbit's numbers
-unfoldable pub rssAt : List ℕ → List ℤ → List Float → List Float → Vec3 → Float → Float → Instant → Float → Float → Float → Float
+unfoldable pub rssAt : (counts : List ℕ) (times : List ℤ) (freqs centers : List Float) (rec : Vec3) (a i : Float) (epoch : Instant) (center raan0 u0 : Float) → Float
 rssAt counts times freqs centers rec a i epoch center raan0 u0 =
     rssOf (record { a = a; i = i; raan0 = raan0; u0 = u0 }) epoch rec center counts times freqs centers
 
-unfoldable pub gradientOf : List ℕ → List ℤ → List Float → List Float → Vec3 → Float → Float → Instant → Float → Float → Float → Gradient
+unfoldable pub gradientOf : (counts : List ℕ) (times : List ℤ) (freqs centers : List Float) (rec : Vec3) (a i : Float) (epoch : Instant) (center raan0 u0 : Float) → Gradient
 gradientOf counts times freqs centers rec a i epoch center raan0 u0 =
     let base = rssAt counts times freqs centers rec a i epoch center raan0 u0 in
     record {

@@ -55,7 +55,7 @@ pub record Room : Type 0 where
   pub log : ℕ
   pub scratch : ℕ
 
-abbrev pub roomOf : ℕ → ℕ → ℕ → ℕ → ℕ → ℕ → Room
+abbrev pub roomOf : (dts dfs df1s df2s log scratch : ℕ) → Room
 roomOf dts dfs df1s df2s log scratch = record { dts = dts; dfs = dfs; df1s = df1s; df2s = df2s; log = log; scratch = scratch }
 
 unfoldable pub enough : ℕ → ℕ → Room → Bool

@@ -48,7 +48,7 @@ unfoldable pub swapRows : ℕ → ℕ → ℕ → List Float → List Float
 swapRows n i m a = for 0 (n + 1) (swapEntries n i m) a
 
 -- a multiple of row i taken from row r in column c, in all columns from i on, and in all rows below i
-unfoldable pub eliminateEntry : ℕ → ℕ → ℕ → Float → ℕ → List Float → List Float
+unfoldable pub eliminateEntry : (n i r : ℕ) (factor : Float) (c : ℕ) (a : List Float) → List Float
 eliminateEntry n i r factor c a = set a (cellOf n r c) (at a (cellOf n r c) ⊖ factor ⊗ at a (cellOf n i c))
 
 unfoldable pub eliminateRow : ℕ → ℕ → ℕ → List Float → List Float
@@ -69,7 +69,7 @@ forwardElimination n a = try 0 n (reduceColumn n) a
 -- ---- back substitution
 
 -- the unknowns that are known, times their coefficients, are added up
-unfoldable pub addTerm : ℕ → List Float → List Float → ℕ → ℕ → Float → Float
+unfoldable pub addTerm : (n : ℕ) (a sol : List Float) (r c : ℕ) (sum : Float) → Float
 addTerm n a sol r c sum = sum ⊕ at a (cellOf n r c) ⊗ at sol c
 
 unfoldable pub substituteRow : ℕ → List Float → ℕ → List Float → List Float

@@ -27,7 +27,7 @@ unfoldable pub secondsAt : List ℤ → ℕ → ℕ → Float
 secondsAt times k j = cond (ltb k (length times) && ltb j (length times)) (betweenOf (getD times k (pos 0)) (getD times j (pos 0))) nan
 
 -- (t_k − t_a)(t_k − t_b)(t_k − t_c)(t_k − t_d)
-unfoldable pub productOf : List ℤ → ℕ → ℕ → ℕ → ℕ → ℕ → Float
+unfoldable pub productOf : (times : List ℤ) (k a b c d : ℕ) → Float
 productOf times k a b c d = secondsAt times k a ⊗ secondsAt times k b ⊗ secondsAt times k c ⊗ secondsAt times k d
 
 -- for each of the five samples from k on, the product of its distances from the four others

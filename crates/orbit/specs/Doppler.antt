@@ -22,7 +22,7 @@ use Rattle.orbit.specs.declared.doppler.DfPoly.{DfPoly}
 use Rattle.orbit.specs.declared.doppler.Prediction.{Prediction}
 use Rattle.orbit.specs.declared.doppler.Prediction.the-variants.{Frequency, Refused}
 
-unfoldable pub dotOf : Float → Float → Float → Float → Float → Float → Float
+unfoldable pub dotOf : (ax ay az bx by bz : Float) → Float
 dotOf ax ay az bx by bz = ax ⊗ bx ⊕ ay ⊗ by ⊕ az ⊗ bz
 
 -- the speed of light, m/s
@@ -48,7 +48,7 @@ shiftedOf s p uRec bias centre =
     let term = one ⊕ (potentialOf (s .x) (s .y) (s .z) ⊖ uRec) ⊘ (light ⊗ light) in
     centre ⊗ (gamma ⊘ (one ⊖ approach ⊘ light)) ⊗ term ⊖ centre ⊕ bias
 
-unfoldable pub receivedOf : State → Vec3 → Float → Float → Float → Float → Float
+unfoldable pub receivedOf : (s : State) (p : Vec3) (uRec near bias centre : Float) → Float
 receivedOf s p uRec near bias centre = cond (lt (distOf s p) one) (centre ⊕ near) (shiftedOf s p uRec bias centre)
 
 -- of the two adjusted moments, the first that is too far
@@ -63,14 +63,14 @@ abbrev pub correctedOf : ℕ → State → ℕ
 correctedOf t s = movedOf t 1 (toSigned 63 (driftOf s))
 
 -- from what is worked out before: rates, rotation at t_obs, potential at the receiver
-unfoldable pub predictedAt : Elements → Rates → ℕ → ℕ → SinCos → Float → Float → Float → Float → Vec3 → Float → Prediction
+unfoldable pub predictedAt : (e : Elements) (k : Rates) (epoch t : ℕ) (turn : SinCos) (dt near bias centre : Float) (p : Vec3) (uRec : Float) → Prediction
 predictedAt e k epoch t turn dt near bias centre p uRec =
     let tAdj = adjustedOf t dt in
     let tCorr = correctedOf tAdj (propagatedOf e k (tauOf tAdj epoch) turn) in
     unless Refused (farMoments tAdj tCorr) (Frequency (receivedOf (propagatedOf e k (tauOf tCorr epoch) turn) p uRec near bias centre))
 
 -- The Rust's text, over counts of nanoseconds, with the rotation at t_obs; `near` is added to the centre within a metre
-unfoldable pub predictedOf : Float → Float → Float → Float → ℕ → ℕ → SinCos → Float → Float → Float → Float → Vec3 → Prediction
+unfoldable pub predictedOf : (a i raan0 u0 : Float) (epoch t : ℕ) (turn : SinCos) (dt near bias centre : Float) (p : Vec3) → Prediction
 predictedOf a i raan0 u0 epoch t turn dt near bias centre p =
     let tAdj = adjustedOf t dt in
     let tCorr = correctedOf tAdj (ecefAt a i raan0 u0 (tauOf tAdj epoch) turn) in
@@ -83,7 +83,7 @@ pub predicted-hoisted : (e : Elements) (epoch t : ℕ) (turn : SinCos) (dt near 
 unfolding predictedAt predictedOf
 predicted-hoisted e epoch t turn dt near bias centre p = simp hoisted
 
-unfoldable pub predictFrequencyOf : Float → Float → Float → Float → Moment → Moment → Float → Float → Float → Vec3 → Prediction
+unfoldable pub predictFrequencyOf : (a i raan0 u0 : Float) (epoch tObs : Moment) (dt df centre : Float) (p : Vec3) → Prediction
 predictFrequencyOf a i raan0 u0 epoch tObs dt df centre p =
     unless Refused (first ((refusal.moment-range if not (taken epoch && taken tObs)) ∷ []))
     (predictedOf a i raan0 u0 (countOf epoch) (countOf tObs) (turnOf tObs) dt df df centre p)
@@ -91,7 +91,7 @@ predictFrequencyOf a i raan0 u0 epoch tObs dt df centre p =
 unfoldable pub biasOf : DfPoly → Float → Float
 biasOf d tau = d .0 ⊕ d .1 ⊗ tau ⊕ d .2 ⊗ tau ⊗ tau
 
-unfoldable pub predictFrequencyPolyOf : Float → Float → Float → Float → Moment → Moment → Float → DfPoly → Moment → Float → Vec3 → Prediction
+unfoldable pub predictFrequencyPolyOf : (a i raan0 u0 : Float) (epoch tObs : Moment) (dt : Float) (d : DfPoly) (tRef : Moment) (centre : Float) (p : Vec3) → Prediction
 predictFrequencyPolyOf a i raan0 u0 epoch tObs dt d tRef centre p =
     unless Refused (first ((refusal.moment-range if not (taken epoch && taken tObs && taken tRef)) ∷ []))
     (predictedOf a i raan0 u0 (countOf epoch) (countOf tObs) (turnOf tObs) dt (d .0) (biasOf d (tauMillisOf (countOf tObs) (countOf tRef))) centre p)

@@ -71,7 +71,7 @@ propagatedOf e k tau turn =
     rotatedOf (turn .sin) (turn .cos) (planeOf e k (sinCosOf (e .u0 ⊕ k .n ⊗ tau)) (sinCosOf (e .raan0 ⊕ k .«d_raan» ⊗ tau)))
 
 -- The Rust's text in one piece: a, i, node and u at the epoch, tau, and sine and cosine of the rotation
-unfoldable pub ecefAt : Float → Float → Float → Float → Float → SinCos → State
+unfoldable pub ecefAt : (a i raan0 u0 tau : Float) (turn : SinCos) → State
 ecefAt a i raan0 u0 tau turn =
     let n = sqrtOf (mu ⊘ (a ⊗ a ⊗ a)) in
     let v = sqrtOf (mu ⊘ a) in
@@ -101,7 +101,7 @@ hoisted e tau turn = refl
 abbrev pub turnOf : Moment → SinCos
 turnOf m = turnAt (secondsOf (m .seconds)) (m .nanos)
 
-unfoldable pub propagateEcefOf : Float → Float → Float → Float → Moment → Moment → Moment → Ecef
+unfoldable pub propagateEcefOf : (a i raan0 u0 : Float) (epoch tOrbit tRotate : Moment) → Ecef
 propagateEcefOf a i raan0 u0 epoch tOrbit tRotate =
     unless Refused (first ((refusal.moment-range if not (taken epoch && taken tOrbit && taken tRotate)) ∷ []))
     (At (ecefAt a i raan0 u0 (tauOf (countOf tOrbit) (countOf epoch)) (turnOf tRotate)))

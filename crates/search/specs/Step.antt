@@ -103,7 +103,7 @@ keptOf b raan u rss = cond (lt rss (b .rss)) (record { raan0 = raan; u0 = u; rss
 
 -- The sum rss goes to place k of the history. The scrambled angles are taken, and their sum put there instead, where their
 -- regularized sum is below.
-unfoldable pub chosenOf : ℕ → Trajectory → Float → Proposal → Angles → Float → Trajectory
+unfoldable pub chosenOf : (k : ℕ) (w : Trajectory) (rss : Float) (next : Proposal) (other : Angles) (otherRss : Float) → Trajectory
 chosenOf k w rss next other otherRss =
     let history = set (w .history) k rss in
     let changed = set history k otherRss in

@@ -15,5 +15,5 @@ pub record Ready (counts : List ℕ) (times : List ℤ) (freqs centers table : L
   pub set : PassSet counts times freqs centers
   pub tabled : Tabled table (getD centers 0 nan) counts times freqs
 
-unfoldable pub sumOf : List ℕ → List ℤ → List Float → List Float → Fixed → Float → Float → Float
+unfoldable pub sumOf : (counts : List ℕ) (times : List ℤ) (freqs centers : List Float) (o : Fixed) (raan0 u0 : Float) → Float
 sumOf counts times freqs centers o raan0 u0 = rssAt counts times freqs centers (o .«rec_ecef») (o .a) (o .i) (o .epoch) (o .«center_freq») raan0 u0

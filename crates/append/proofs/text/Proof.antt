@@ -42,9 +42,6 @@ done : {text out₀ out out′ : List ℕ} {at next next′ k : ℕ} → length 
     → Appends text at out₀ out′ next′
 done {text} {k = k} h inv f = inv .rest .gives (rw (le-antisymm (inv .turns) h, drop-length) f)
 
-same-length : tie.Need-same-length Inv-loop μ-loop
-same-length c = search needs
-
 returns : tie.Need-returns Inv-loop μ-loop
 returns c = done (c .before .before .before .before .loop-test .left) (c .before .before .before .before .before .loop .inv) (c .before .before .nothing .ensures)
 
@@ -61,5 +58,5 @@ text-spec =
     (λ c. search needs)
     loop-again
     (λ c κs. search needs)
-    same-length
+    (λ c. search needs)
     returns)

@@ -6,15 +6,6 @@ use Rattle.exports.proofs.Given.{jd-at, jd-refused}
 use Rattle.exports.proofs.wisvalom_datetime_to_jd.Statement.{statement}
 use Rattle.exports.proofs.wisvalom_datetime_to_jd.Tie as tie
 
-datetime-to-jd-requires : tie.Need-datetime-to-jd-requires
-datetime-to-jd-requires c κs = search needs
-
-enum-known-answer : tie.Need-enum-known-answer
-enum-known-answer c = search needs
-
-enum-known-answer-2 : tie.Need-enum-known-answer-2
-enum-known-answer-2 c = search needs
-
 returns : tie.Need-returns
 returns c = jd-at _ _ _ _ _ (toZ-ofZ w64 _ (c .before .before .before .before .fits .seconds)) (sym (c .before .answer .given .1) ∙ c .before .before .before .datetime-to-jd .ensures)
 
@@ -24,4 +15,4 @@ returns-2 c = jd-refused _ _ _ _ _ (toZ-ofZ w64 _ (c .before .before .before .be
 pub wisvalom-datetime-to-jd-spec : {M : Type 1} → statement M
 wisvalom-datetime-to-jd-spec =
     tie.close
-    (tie.spec datetime-to-jd-requires enum-known-answer enum-known-answer-2 returns returns-2)
+    (tie.spec (λ c κs. search needs) (λ c. search needs) (λ c. search needs) returns returns-2)

@@ -6,15 +6,6 @@ use Rattle.exports.proofs.Given.{frequency, refused, predicted}
 use Rattle.exports.proofs.wisvalom_predict_frequency.Statement.{statement}
 use Rattle.exports.proofs.wisvalom_predict_frequency.Tie as tie
 
-predict-frequency-requires : tie.Need-predict-frequency-requires
-predict-frequency-requires c κs = search needs
-
-enum-known-answer : tie.Need-enum-known-answer
-enum-known-answer c = search needs
-
-enum-known-answer-2 : tie.Need-enum-known-answer-2
-enum-known-answer-2 c = search needs
-
 returns : tie.Need-returns
 returns c =
     let f = c .before .before .before .before .fits in
@@ -32,4 +23,4 @@ returns-2 c =
 pub wisvalom-predict-frequency-spec : {M : Type 1} → statement M
 wisvalom-predict-frequency-spec =
     tie.close
-    (tie.spec predict-frequency-requires enum-known-answer enum-known-answer-2 returns returns-2)
+    (tie.spec (λ c κs. search needs) (λ c. search needs) (λ c. search needs) returns returns-2)

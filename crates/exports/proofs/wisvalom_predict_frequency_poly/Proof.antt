@@ -6,15 +6,6 @@ use Rattle.exports.proofs.Given.{frequency, refused, poly-predicted}
 use Rattle.exports.proofs.wisvalom_predict_frequency_poly.Statement.{statement}
 use Rattle.exports.proofs.wisvalom_predict_frequency_poly.Tie as tie
 
-predict-frequency-poly-requires : tie.Need-predict-frequency-poly-requires
-predict-frequency-poly-requires c κs = search needs
-
-enum-known-answer : tie.Need-enum-known-answer
-enum-known-answer c = search needs
-
-enum-known-answer-2 : tie.Need-enum-known-answer-2
-enum-known-answer-2 c = search needs
-
 returns : tie.Need-returns
 returns c =
     let f = c .before .before .before .before .fits in
@@ -33,8 +24,8 @@ pub wisvalom-predict-frequency-poly-spec : {M : Type 1} → statement M
 wisvalom-predict-frequency-poly-spec =
     tie.close
     (tie.spec
-    predict-frequency-poly-requires
-    enum-known-answer
-    enum-known-answer-2
+    (λ c κs. search needs)
+    (λ c. search needs)
+    (λ c. search needs)
     returns
     returns-2)

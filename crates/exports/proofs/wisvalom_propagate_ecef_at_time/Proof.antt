@@ -6,15 +6,6 @@ use Rattle.exports.proofs.Given.{state, no-state, propagated}
 use Rattle.exports.proofs.wisvalom_propagate_ecef_at_time.Statement.{statement}
 use Rattle.exports.proofs.wisvalom_propagate_ecef_at_time.Tie as tie
 
-propagate-ecef-at-time-requires : tie.Need-propagate-ecef-at-time-requires
-propagate-ecef-at-time-requires c κs = search needs
-
-enum-known-answer : tie.Need-enum-known-answer
-enum-known-answer c = search needs
-
-enum-known-answer-2 : tie.Need-enum-known-answer-2
-enum-known-answer-2 c = search needs
-
 returns : tie.Need-returns
 returns c =
     let f = c .before .before .before .before .before .fits in
@@ -33,8 +24,8 @@ pub wisvalom-propagate-ecef-at-time-spec : {M : Type 1} → statement M
 wisvalom-propagate-ecef-at-time-spec =
     tie.close
     (tie.spec
-    propagate-ecef-at-time-requires
-    enum-known-answer
-    enum-known-answer-2
+    (λ c κs. search needs)
+    (λ c. search needs)
+    (λ c. search needs)
     returns
     returns-2)

@@ -14,9 +14,6 @@ use Rattle.float.proofs.floor.Tie as tie
 truncating-f64-to-u64-requires : tie.Need-truncating-f64-to-u64-requires
 truncating-f64-to-u64-requires c κs = cut-range _ (c .before .if1 .taken) (c .if2 .taken)
 
-nearest-u64-to-f64-requires : tie.Need-nearest-u64-to-f64-requires
-nearest-u64-to-f64-requires c κs = search needs
-
 returns : tie.Need-returns
 returns c =
     let t = c .before .before in
@@ -30,9 +27,6 @@ returns-2 c =
 truncating-f64-to-u64-requires-2 : tie.Need-truncating-f64-to-u64-requires-2
 truncating-f64-to-u64-requires-2 c κs = cut-range-below _ (c .before .if3 .taken, c .if4 .taken)
 
-nearest-u64-to-f64-requires-2 : tie.Need-nearest-u64-to-f64-requires-2
-nearest-u64-to-f64-requires-2 c κs = search needs
-
 returns-3 : tie.Need-returns-3
 returns-3 c =
     let t = c .before .before .before in
@@ -41,9 +35,6 @@ returns-3 c =
 
 add-nearest-u64-to-f64 : tie.Need-add-nearest-u64-to-f64
 add-nearest-u64-to-f64 c = let t = c .before .before .before in omega (arith, c .before .before .truncating-f64-to-u642 .ensures, small-below _ (t .before .if3 .taken, t .if4 .taken))
-
-nearest-u64-to-f64-requires-3 : tie.Need-nearest-u64-to-f64-requires-3
-nearest-u64-to-f64-requires-3 c κs = search needs
 
 returns-4 : tie.Need-returns-4
 returns-4 c =
@@ -65,14 +56,14 @@ floor-spec =
     tie.close
     (tie.spec
     truncating-f64-to-u64-requires
-    nearest-u64-to-f64-requires
+    (λ c κs. search needs)
     returns
     returns-2
     truncating-f64-to-u64-requires-2
-    nearest-u64-to-f64-requires-2
+    (λ c κs. search needs)
     returns-3
     add-nearest-u64-to-f64
-    nearest-u64-to-f64-requires-3
+    (λ c κs. search needs)
     returns-4
     returns-5
     returns-6)

@@ -8,9 +8,6 @@ use borrow.Author.Needs.{needs}
 use Rattle.float.proofs.round.Statement.{statement}
 use Rattle.float.proofs.round.Tie as tie
 
-halves-up-requires : tie.Need-halves-up-requires
-halves-up-requires c κs = search needs
-
 returns : tie.Need-returns
 returns c = let t = c .before in c .halves-up .ensures ∙ round-above _ (subst T (sym (t .before .before .good .0 .1)) tt) (t .before .if1 .taken) (t .if2 .taken)
 
@@ -18,9 +15,6 @@ returns-2 : tie.Need-returns-2
 returns-2 c =
     let f = subst T (sym (c .before .before .good .0 .1)) tt in
     whole-round _ f (whole-high _ f (c .before .if1 .taken) (c .if2 .left))
-
-halves-up-requires-2 : tie.Need-halves-up-requires-2
-halves-up-requires-2 c κs = search needs
 
 returns-3 : tie.Need-returns-3
 returns-3 c = let t = c .before in ap neg (c .halves-up2 .ensures) ∙ round-below _ (neg-fits binary64 _ (subst T (sym (t .before .before .before .good .0 .1)) tt)) (t .before .if3 .taken) (t .if4 .taken)
@@ -37,10 +31,10 @@ pub round-spec : {M : Type 1} → statement M
 round-spec =
     tie.close
     (tie.spec
-    halves-up-requires
+    (λ c κs. search needs)
     returns
     returns-2
-    halves-up-requires-2
+    (λ c κs. search needs)
     returns-3
     returns-4
     returns-5)

@@ -6,15 +6,6 @@ use borrow.Author.Needs.{needs}
 use Rattle.frame.proofs.datetime_to_jd.Statement.{statement}
 use Rattle.frame.proofs.datetime_to_jd.Tie as tie
 
-instant-of-requires : tie.Need-instant-of-requires
-instant-of-requires c κs = search needs
-
-enum-known-t : tie.Need-enum-known-t
-enum-known-t c = search needs
-
-enum-told : tie.Need-enum-told
-enum-told c = search needs
-
 returns : tie.Need-returns
 returns c = out (c .before .before .before .args .dt) (sym (c .enum-told .given .1) ∙ c .before .before .instant-of .ensures)
 
@@ -31,4 +22,4 @@ returns-2 c =
 pub datetime-to-jd-spec : {M : Type 1} → statement M
 datetime-to-jd-spec =
     tie.close
-    (tie.spec instant-of-requires enum-known-t enum-told returns jd-at-requires returns-2)
+    (tie.spec (λ c κs. search needs) (λ c. search needs) (λ c. search needs) returns jd-at-requires returns-2)

@@ -6,9 +6,6 @@ use borrow.Author.Needs.{needs}
 use Rattle.monna.proofs.inverse_monna_map.Statement.{statement}
 use Rattle.monna.proofs.inverse_monna_map.Tie as tie
 
-is-base-requires : tie.Need-is-base-requires
-is-base-requires c κs = search needs
-
 returns : tie.Need-returns
 unfolding inverseMonnaMapOf digitsRefusal
 returns c = simp (← c .before .is-base .ensures, c .if1 .taken)
@@ -26,4 +23,4 @@ returns-3 c = simp (← c .before .before .before .is-base .ensures, c .before .
 
 pub inverse-monna-map-spec : {M : Type 1} → statement M
 inverse-monna-map-spec =
-    tie.close (tie.spec is-base-requires returns returns-2 inverse-value-requires returns-3)
+    tie.close (tie.spec (λ c κs. search needs) returns returns-2 inverse-value-requires returns-3)

@@ -5,9 +5,6 @@ use borrow.Author.Needs.{needs}
 use Rattle.monna.proofs.monna_map.Statement.{statement}
 use Rattle.monna.proofs.monna_map.Tie as tie
 
-is-base-requires : tie.Need-is-base-requires
-is-base-requires c κs = search needs
-
 returns : tie.Need-returns
 unfolding monnaMapOf baseRefusal
 returns c = simp (← c .before .is-base .ensures, c .if1 .taken)
@@ -20,4 +17,4 @@ unfolding monnaMapOf baseRefusal
 returns-2 c = simp (← c .before .before .is-base .ensures, c .before .if1 .left, c .monna-value .ensures)
 
 pub monna-map-spec : {M : Type 1} → statement M
-monna-map-spec = tie.close (tie.spec is-base-requires returns monna-value-requires returns-2)
+monna-map-spec = tie.close (tie.spec (λ c κs. search needs) returns monna-value-requires returns-2)

@@ -5,9 +5,6 @@ use borrow.Author.Needs.{needs}
 use Rattle.monna.proofs.p_adic_distance.Statement.{statement}
 use Rattle.monna.proofs.p_adic_distance.Tie as tie
 
-is-base-requires : tie.Need-is-base-requires
-is-base-requires c κs = search needs
-
 returns : tie.Need-returns
 unfolding pAdicDistanceOf baseRefusal
 returns c = simp (← c .before .is-base .ensures, c .if1 .taken)
@@ -20,4 +17,4 @@ unfolding pAdicDistanceOf baseRefusal
 returns-2 c = simp (← c .before .before .is-base .ensures, c .before .if1 .left, c .distance-value .ensures)
 
 pub p-adic-distance-spec : {M : Type 1} → statement M
-p-adic-distance-spec = tie.close (tie.spec is-base-requires returns distance-value-requires returns-2)
+p-adic-distance-spec = tie.close (tie.spec (λ c κs. search needs) returns distance-value-requires returns-2)

@@ -9,43 +9,16 @@ use borrow.Author.Needs.{needs}
 use Rattle.orbit.proofs.propagate_ecef_at_time.Statement.{statement}
 use Rattle.orbit.proofs.propagate_ecef_at_time.Tie as tie
 
-instant-of-requires : tie.Need-instant-of-requires
-instant-of-requires c κs = search needs
-
-enum-known-from : tie.Need-enum-known-from
-enum-known-from c = search needs
-
-enum-told : tie.Need-enum-told
-enum-told c = search needs
-
 returns : tie.Need-returns
 returns c =
     let a = c .before .before .before .args in
     ecef-epoch-out (a .a) (a .i) (a .raan0) (a .u0) (a .epoch) (a .t-orbit) (a .t-rotate) (sym (c .enum-told .given .1) ∙ c .before .before .instant-of .ensures)
-
-instant-of-requires-2 : tie.Need-instant-of-requires-2
-instant-of-requires-2 c κs = search needs
-
-enum-known-t : tie.Need-enum-known-t
-enum-known-t c = search needs
-
-enum-told-2 : tie.Need-enum-told-2
-enum-told-2 c = search needs
 
 returns-2 : tie.Need-returns-2
 returns-2 c =
     let f = c .before .before .before .before in
     let a = f .before .before .before .args in
     ecef-t-out (a .a) (a .i) (a .raan0) (a .u0) (a .epoch) (a .t-orbit) (a .t-rotate) _ (sym (f .from .given .1) ∙ f .before .before .instant-of .ensures) (sym (c .enum-told2 .given .1) ∙ c .before .before .instant-of2 .ensures)
-
-instant-of-requires-3 : tie.Need-instant-of-requires-3
-instant-of-requires-3 c κs = search needs
-
-enum-known-rotate : tie.Need-enum-known-rotate
-enum-known-rotate c = search needs
-
-enum-told-3 : tie.Need-enum-told-3
-enum-told-3 c = search needs
 
 returns-3 : tie.Need-returns-3
 returns-3 c =
@@ -60,21 +33,12 @@ jd-at-requires c κs =
     let h = at-is _ _ _ (sym (r .rotate .given .1) ∙ r .before .before .instant-of3 .ensures) .accepted in
     (omega (arith, h .low), omega (arith, h .high))
 
-rotation-requires : tie.Need-rotation-requires
-rotation-requires c κs = search needs
-
-rates-of-requires : tie.Need-rates-of-requires
-rates-of-requires c κs = search needs
-
 tau-requires : tie.Need-tau-requires
 tau-requires c κs =
     let r = c .before .before .before .before in
     let s = r .before .before .before .before in
     let f = s .before .before .before .before in
     (within-sound 0 _ _ (lit≤ tt) (at-is _ _ _ (sym (s .t .given .1) ∙ s .before .before .instant-of2 .ensures) .accepted), within-sound 0 _ _ (lit≤ tt) (at-is _ _ _ (sym (f .from .given .1) ∙ f .before .before .instant-of .ensures) .accepted))
-
-propagate-requires : tie.Need-propagate-requires
-propagate-requires c κs = search needs
 
 returns-4 : tie.Need-returns-4
 returns-4 c =
@@ -91,21 +55,21 @@ pub propagate-ecef-at-time-spec : {M : Type 1} → statement M
 propagate-ecef-at-time-spec =
     tie.close
     (tie.spec
-    instant-of-requires
-    enum-known-from
-    enum-told
+    (λ c κs. search needs)
+    (λ c. search needs)
+    (λ c. search needs)
     returns
-    instant-of-requires-2
-    enum-known-t
-    enum-told-2
+    (λ c κs. search needs)
+    (λ c. search needs)
+    (λ c. search needs)
     returns-2
-    instant-of-requires-3
-    enum-known-rotate
-    enum-told-3
+    (λ c κs. search needs)
+    (λ c. search needs)
+    (λ c. search needs)
     returns-3
     jd-at-requires
-    rotation-requires
-    rates-of-requires
+    (λ c κs. search needs)
+    (λ c κs. search needs)
     tau-requires
-    propagate-requires
+    (λ c κs. search needs)
     returns-4)

@@ -4,15 +4,6 @@ use borrow.Author.Needs.{needs}
 use Rattle.orbit.proofs.rates_of.Statement.{statement}
 use Rattle.orbit.proofs.rates_of.Tie as tie
 
-sqrt-requires : tie.Need-sqrt-requires
-sqrt-requires c κs = search needs
-
-sqrt-requires-2 : tie.Need-sqrt-requires-2
-sqrt-requires-2 c κs = search needs
-
-sin-cos-requires : tie.Need-sin-cos-requires
-sin-cos-requires c κs = search needs
-
 returns : tie.Need-returns
 unfolding ratesOf ofBits round
 returns c =
@@ -20,4 +11,4 @@ returns c =
     simp (s .before .before .before .sqrt .ensures, s .before .sqrt2 .ensures, s .sin-cos .ensures .0, s .sin-cos .ensures .1)
 
 pub rates-of-spec : {M : Type 1} → statement M
-rates-of-spec = tie.close (tie.spec sqrt-requires sqrt-requires-2 sin-cos-requires returns)
+rates-of-spec = tie.close (tie.spec (λ c κs. search needs) (λ c κs. search needs) (λ c κs. search needs) returns)

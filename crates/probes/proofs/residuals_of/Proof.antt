@@ -5,20 +5,11 @@ use borrow.Author.Needs.{needs}
 use Rattle.probes.proofs.residuals_of.Statement.{statement}
 use Rattle.probes.proofs.residuals_of.Tie as tie
 
-refusal-of-requires : tie.Need-refusal-of-requires
-refusal-of-requires c κs = search needs
-
 returns : tie.Need-returns
 returns c = rw (← c .before .refusal-of .ensures) (sums-refused _ _ _ (c .if1 .taken))
 
 station-requires : tie.Need-station-requires
 station-requires c κs = taken _ _ _ _ _ _ (sym (c .before .refusal-of .ensures) ∙ c .if1 .left) .timed
-
-slice-aggregate-sum-in : tie.Need-slice-aggregate-sum-in
-slice-aggregate-sum-in c = search needs
-
-slice-aggregate-sum-in-2 : tie.Need-slice-aggregate-sum-in-2
-slice-aggregate-sum-in-2 c = search needs
 
 sum-in-requires : tie.Need-sum-in-requires
 sum-in-requires c κs =
@@ -28,9 +19,6 @@ sum-in-requires c κs =
       c .before .before .before .station .ensures .1,
       ok .enough,
     )
-
-same-length : tie.Need-same-length
-same-length c = search needs
 
 returns-2 : tie.Need-returns-2
 returns-2 c =
@@ -42,11 +30,11 @@ pub residuals-of-spec : {M : Type 1} → statement M
 residuals-of-spec =
     tie.close
     (tie.spec
-    refusal-of-requires
+    (λ c κs. search needs)
     returns
     station-requires
-    slice-aggregate-sum-in
-    slice-aggregate-sum-in-2
+    (λ c. search needs)
+    (λ c. search needs)
     sum-in-requires
-    same-length
+    (λ c. search needs)
     returns-2)

@@ -7,15 +7,9 @@ use borrow.Author.Needs.{needs}
 use Rattle.rfc3339.proofs.date_time.Statement.{statement}
 use Rattle.rfc3339.proofs.date_time.Tie as tie
 
-valid-date-requires : tie.Need-valid-date-requires
-valid-date-requires c κs = search needs
-
 returns : tie.Need-returns
 unfolding Rfc.dateTime
 returns c = simp (sym (c .before .valid-date .ensures) ∙ not-true _ (c .if1 .taken))
-
-valid-time-requires : tie.Need-valid-time-requires
-valid-time-requires c κs = search needs
 
 returns-2 : tie.Need-returns-2
 unfolding Rfc.dateTime
@@ -27,9 +21,6 @@ seconds-requires c κs =
     let d = in-day _ _ _ (sym (c .before .valid-time .ensures) ∙ not-false _ (c .if2 .left)) in
     record { year = search needs; month = y .month; first = y .first; begin = y .begin; day = y .day; hour = d .hour; minute = d .minute; second = d .second }
 
-time-secfrac-requires : tie.Need-time-secfrac-requires
-time-secfrac-requires c κs = search needs
-
 returns-3 : tie.Need-returns-3
 unfolding Rfc.dateTime
 returns-3 c = simp (sym (c .before .before .before .before .before .valid-date .ensures) ∙ not-false _ (c .before .before .before .before .if1 .left), sym (c .before .before .before .valid-time .ensures) ∙ not-false _ (c .before .before .if2 .left), c .time-secfrac .ensures, c .before .seconds .ensures .is)
@@ -38,10 +29,10 @@ pub date-time-spec : {M : Type 1} → statement M
 date-time-spec =
     tie.close
     (tie.spec
-    valid-date-requires
+    (λ c κs. search needs)
     returns
-    valid-time-requires
+    (λ c κs. search needs)
     returns-2
     seconds-requires
-    time-secfrac-requires
+    (λ c κs. search needs)
     returns-3)

@@ -13,12 +13,9 @@ returns-2 : tie.Need-returns-2
 unfolding Rfc.placeFits
 returns-2 c = simp (eq-eqb _ _ (c .before .if1 .taken), le-leb _ _ (c .if2 .left))
 
-small-requires : tie.Need-small-requires
-small-requires c κs = search needs
-
 returns-3 : tie.Need-returns-3
 unfolding Rfc.placeFits
 returns-3 c = simp (ne-eqb _ _ (c .before .if1 .left), c .small .ensures)
 
 pub fits-spec : {M : Type 1} → statement M
-fits-spec = tie.close (tie.spec returns returns-2 small-requires returns-3)
+fits-spec = tie.close (tie.spec returns returns-2 (λ c κs. search needs) returns-3)

@@ -31,9 +31,6 @@ shared-slice-read-fits c = omega arith
 shared-slice-read-fits-2 : tie.Need-shared-slice-read-fits-2 Inv-loop μ-loop
 shared-slice-read-fits-2 c = omega arith
 
-fits-requires : tie.Need-fits-requires Inv-loop μ-loop
-fits-requires c κs = search needs
-
 returns-2 : tie.Need-returns-2 Inv-loop μ-loop
 returns-2 c =
     let l = c .before .before .before .before .before .before .loop in
@@ -68,7 +65,7 @@ matches-spec =
     returns
     shared-slice-read-fits
     shared-slice-read-fits-2
-    fits-requires
+    (λ c κs. search needs)
     returns-2
     add-i
     loop-less

@@ -7,24 +7,12 @@ use borrow.Author.Needs.{needs}
 use Rattle.rfc3339.proofs.nanos.Statement.{statement}
 use Rattle.rfc3339.proofs.nanos.Tie as tie
 
-append-requires : tie.Need-append-requires
-append-requires c κs = search needs
-
-sub-power : tie.Need-sub-power
-sub-power c = search needs
-
-power-requires : tie.Need-power-requires
-power-requires c κs = search needs
-
 mul-result : tie.Need-mul-result
 mul-result c = record { fits = omega (arith, billionths (c .before .append .ensures .1) (c .power .ensures) (c .before .before .if1 .taken)) }
 
 returns : tie.Need-returns
 unfolding Rfc.nanos
 returns c = record { is = simp (lt-ltb _ _ (c .before .before .if1 .taken), c .before .append .ensures .0, c .power .ensures); most = billionths (c .before .append .ensures .1) (c .power .ensures) (c .before .before .if1 .taken) }
-
-append-requires-2 : tie.Need-append-requires-2
-append-requires-2 c κs = search needs
 
 returns-2 : tie.Need-returns-2
 unfolding Rfc.nanos
@@ -34,10 +22,10 @@ pub nanos-spec : {M : Type 1} → statement M
 nanos-spec =
     tie.close
     (tie.spec
-    append-requires
-    sub-power
-    power-requires
+    (λ c κs. search needs)
+    (λ c. search needs)
+    (λ c κs. search needs)
     mul-result
     returns
-    append-requires-2
+    (λ c κs. search needs)
     returns-2)

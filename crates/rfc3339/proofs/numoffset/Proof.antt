@@ -19,58 +19,13 @@ said c = sym (c .matches .ensures ∙ ap (Rfc.matches Rfc.hourMinute) (rest (c .
 hours : (c : tie.After-valid-time) → Rfc.validTime (Rfc.twoDigits (c .before .before .before .before .before .before .before .before .args .l .now) (c .before .before .before .before .before .before .before .before .args .z + 1)) (Rfc.twoDigits (c .before .before .before .before .before .before .before .before .args .l .now) (c .before .before .before .before .before .before .before .before .args .z + 4)) 0 ≡ c .valid-time .result
 hours c = sym (c .valid-time .ensures ∙ (λ j. Rfc.validTime (c .before .before .two-digits .ensures .is j) (c .before .two-digits2 .ensures .is j) 0))
 
-slice-aggregate-matches : tie.Need-slice-aggregate-matches
-slice-aggregate-matches c = search needs
-
-add-matches : tie.Need-add-matches
-add-matches c = search needs
-
-sub-matches : tie.Need-sub-matches
-sub-matches c = search needs
-
-part-matches-start : tie.Need-part-matches-start
-part-matches-start c = search needs
-
-part-matches-end : tie.Need-part-matches-end
-part-matches-end c = search needs
-
-matches-requires : tie.Need-matches-requires
-matches-requires c κs = search needs
-
 returns : tie.Need-returns
 unfolding Rfc.numoffset
 returns c = simp (said (c .before) ∙ not-true _ (c .if1 .taken))
 
-add-two-digits : tie.Need-add-two-digits
-add-two-digits c = search needs
-
-two-digits-requires : tie.Need-two-digits-requires
-two-digits-requires c κs = search needs
-
-add-two-digits-2 : tie.Need-add-two-digits-2
-add-two-digits-2 c = search needs
-
-two-digits-requires-2 : tie.Need-two-digits-requires-2
-two-digits-requires-2 c κs = search needs
-
-valid-time-requires : tie.Need-valid-time-requires
-valid-time-requires c κs = search needs
-
 returns-2 : tie.Need-returns-2
 unfolding Rfc.numoffset
 returns-2 c = simp (said (c .before .before .before .before .before) ∙ not-false _ (c .before .before .before .before .if1 .left), hours (c .before) ∙ not-true _ (c .if2 .taken))
-
-byte-requires : tie.Need-byte-requires
-byte-requires c κs = search needs
-
-mul-t18 : tie.Need-mul-t18
-mul-t18 c = search needs
-
-mul-t19 : tie.Need-mul-t19
-mul-t19 c = search needs
-
-add-t20 : tie.Need-add-t20
-add-t20 c = search needs
 
 sub-t21 : tie.Need-sub-t21
 sub-t21 c = let d = in-day _ _ _ (sym (c .before .before .before .valid-time .ensures) ∙ not-false _ (c .before .before .if2 .left)) in omega (arith, d .hour, d .minute, c .before .before .before .before .before .before .before .before .before .before .before .pre .0 .low)
@@ -78,18 +33,6 @@ sub-t21 c = let d = in-day _ _ _ (sym (c .before .before .before .valid-time .en
 returns-3 : tie.Need-returns-3
 unfolding Rfc.numoffset
 returns-3 c = simp (said (c .before .before .before .before .before .before .before) ∙ not-false _ (c .before .before .before .before .before .before .if1 .left), hours (c .before .before .before) ∙ not-false _ (c .before .before .if2 .left), eq-eqb _ _ (sym (c .before .byte .ensures) ∙ c .if3 .taken), c .before .before .before .before .before .two-digits .ensures .is, c .before .before .before .before .two-digits2 .ensures .is)
-
-mul-t22 : tie.Need-mul-t22
-mul-t22 c = search needs
-
-mul-t23 : tie.Need-mul-t23
-mul-t23 c = search needs
-
-add-t24 : tie.Need-add-t24
-add-t24 c = search needs
-
-add-t25 : tie.Need-add-t25
-add-t25 c = search needs
 
 returns-4 : tie.Need-returns-4
 unfolding Rfc.numoffset
@@ -103,28 +46,28 @@ pub numoffset-spec : {M : Type 1} → statement M
 numoffset-spec =
     tie.close
     (tie.spec
-    slice-aggregate-matches
-    add-matches
-    sub-matches
-    part-matches-start
-    part-matches-end
-    matches-requires
+    (λ c. search needs)
+    (λ c. search needs)
+    (λ c. search needs)
+    (λ c. search needs)
+    (λ c. search needs)
+    (λ c κs. search needs)
     returns
-    add-two-digits
-    two-digits-requires
-    add-two-digits-2
-    two-digits-requires-2
-    valid-time-requires
+    (λ c. search needs)
+    (λ c κs. search needs)
+    (λ c. search needs)
+    (λ c κs. search needs)
+    (λ c κs. search needs)
     returns-2
-    byte-requires
-    mul-t18
-    mul-t19
-    add-t20
+    (λ c κs. search needs)
+    (λ c. search needs)
+    (λ c. search needs)
+    (λ c. search needs)
     sub-t21
     returns-3
-    mul-t22
-    mul-t23
-    add-t24
-    add-t25
+    (λ c. search needs)
+    (λ c. search needs)
+    (λ c. search needs)
+    (λ c. search needs)
     returns-4
     returns-5)

@@ -7,15 +7,6 @@ use borrow.Author.Needs.{needs}
 use Rattle.rfc3339.proofs.time_offset.Statement.{statement}
 use Rattle.rfc3339.proofs.time_offset.Tie as tie
 
-add-if1 : tie.Need-add-if1
-add-if1 c = search needs
-
-byte-requires : tie.Need-byte-requires
-byte-requires c κs = search needs
-
-small-requires : tie.Need-small-requires
-small-requires c κs = search needs
-
 returns : tie.Need-returns
 unfolding Rfc.timeOffset
 returns c = simp (eq-eqb _ _ (c .before .before .before .if1 .taken), eq-eqb _ _ (sym (c .before .small .ensures ∙ ap lower (c .before .before .byte .ensures)) ∙ c .if2 .taken))
@@ -23,12 +14,6 @@ returns c = simp (eq-eqb _ _ (c .before .before .before .if1 .taken), eq-eqb _ _
 returns-2 : tie.Need-returns-2
 unfolding Rfc.timeOffset
 returns-2 c = simp (eq-eqb _ _ (c .before .before .before .if1 .taken), ne-eqb _ _ (rw (c .before .small .ensures ∙ ap lower (c .before .before .byte .ensures)) at (c .if2 .left)))
-
-add-if3 : tie.Need-add-if3
-add-if3 c = search needs
-
-numoffset-requires : tie.Need-numoffset-requires
-numoffset-requires c κs = search needs
 
 returns-3 : tie.Need-returns-3
 unfolding Rfc.timeOffset
@@ -42,12 +27,12 @@ pub time-offset-spec : {M : Type 1} → statement M
 time-offset-spec =
     tie.close
     (tie.spec
-    add-if1
-    byte-requires
-    small-requires
+    (λ c. search needs)
+    (λ c κs. search needs)
+    (λ c κs. search needs)
     returns
     returns-2
-    add-if3
-    numoffset-requires
+    (λ c. search needs)
+    (λ c κs. search needs)
     returns-3
     returns-4)

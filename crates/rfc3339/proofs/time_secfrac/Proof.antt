@@ -8,9 +8,6 @@ use borrow.Author.Needs.{needs}
 use Rattle.rfc3339.proofs.time_secfrac.Statement.{statement}
 use Rattle.rfc3339.proofs.time_secfrac.Tie as tie
 
-byte-requires : tie.Need-byte-requires
-byte-requires c κs = search needs
-
 digits-requires : tie.Need-digits-requires
 digits-requires c κs = present (c .before .before .before .args .l .now) 19 46 (sym (c .before .byte .ensures) ∙ c .if1 .taken) (lit< tt)
 
@@ -18,21 +15,9 @@ returns : tie.Need-returns
 unfolding Rfc.timeSecfrac
 returns c = simp (eq-eqb _ _ (sym (c .before .before .before .byte .ensures) ∙ c .before .before .if1 .taken), eq-eqb _ _ (sym (c .before .digits .ensures .0) ∙ c .if2 .taken))
 
-add-time-offset : tie.Need-add-time-offset
-add-time-offset c = search needs
-
-nanos-requires : tie.Need-nanos-requires
-nanos-requires c κs = search needs
-
-time-offset-requires : tie.Need-time-offset-requires
-time-offset-requires c κs = search needs
-
 returns-2 : tie.Need-returns-2
 unfolding Rfc.timeSecfrac
 returns-2 c = simp (eq-eqb _ _ (sym (c .before .before .before .before .before .byte .ensures) ∙ c .before .before .before .before .if1 .taken), ne-eqb _ _ (rw (c .before .before .before .digits .ensures .0) at (c .before .before .if2 .left)), c .time-offset .ensures, c .before .nanos .ensures .is, c .before .before .before .digits .ensures .0)
-
-time-offset-requires-2 : tie.Need-time-offset-requires-2
-time-offset-requires-2 c κs = search needs
 
 returns-3 : tie.Need-returns-3
 unfolding Rfc.timeSecfrac
@@ -42,12 +27,12 @@ pub time-secfrac-spec : {M : Type 1} → statement M
 time-secfrac-spec =
     tie.close
     (tie.spec
-    byte-requires
+    (λ c κs. search needs)
     digits-requires
     returns
-    add-time-offset
-    nanos-requires
-    time-offset-requires
+    (λ c. search needs)
+    (λ c κs. search needs)
+    (λ c κs. search needs)
     returns-2
-    time-offset-requires-2
+    (λ c κs. search needs)
     returns-3)

@@ -17,12 +17,6 @@ returns-3 : tie.Need-returns-3
 unfolding Rfc.validDate
 returns-3 c = simp (ne-eqb _ _ (c .before .before .if1 .left), le-ltb _ _ (c .before .if2 .left), eq-eqb _ _ (c .if3 .taken))
 
-leap-year-requires : tie.Need-leap-year-requires
-leap-year-requires c κs = search needs
-
-month-length-requires : tie.Need-month-length-requires
-month-length-requires c κs = search needs
-
 returns-4 : tie.Need-returns-4
 unfolding Rfc.validDate
 returns-4 c =
@@ -30,4 +24,4 @@ returns-4 c =
     simp (ne-eqb _ _ (b .before .before .if1 .left), le-ltb _ _ (b .before .if2 .left), ne-eqb _ _ (b .if3 .left), c .month-length .ensures .is, c .before .leap-year .ensures)
 
 pub valid-date-spec : {M : Type 1} → statement M
-valid-date-spec = tie.close (tie.spec returns returns-2 returns-3 leap-year-requires month-length-requires returns-4)
+valid-date-spec = tie.close (tie.spec returns returns-2 returns-3 (λ c κs. search needs) (λ c κs. search needs) returns-4)

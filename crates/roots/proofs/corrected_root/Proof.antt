@@ -30,9 +30,6 @@ taken c = 144115188075855872 + low (estimate c)
 balance : (c : tie.Else4) → digits (estimate c) * digits (estimate c) + n c ≡ target c + taken c
 balance c = same (start c .args .m) (estimate c) (c .before .before .before .if1 .left)
 
-add-q : tie.Need-add-q
-add-q c = search needs
-
 mul-ab : tie.Need-mul-ab
 mul-ab c = omega (arith, bounds (c .args .estimate))
 
@@ -42,38 +39,14 @@ mul-high c = omega (arith, bounds (c .args .estimate))
 add-high : tie.Need-add-high
 add-high c = omega (arith, bounds (c .args .estimate))
 
-mul-low : tie.Need-mul-low
-mul-low c = search needs
-
 mul-low-2 : tie.Need-mul-low-2
 mul-low-2 c = omega (arith, bounds (c .args .estimate))
 
 add-low : tie.Need-add-low
 add-low c = omega (arith, bounds (c .args .estimate))
 
-add-top : tie.Need-add-top
-add-top c = search needs
-
-returns : tie.Need-returns
-returns c = search needs
-
-returns-2 : tie.Need-returns-2
-returns-2 c = search needs
-
-mul-n : tie.Need-mul-n
-mul-n c = search needs
-
-mul-n-2 : tie.Need-mul-n-2
-mul-n-2 c = search needs
-
-add-n : tie.Need-add-n
-add-n c = search needs
-
 add-square : tie.Need-add-square
 add-square c = omega (arith, bounds (c .before .before .args .estimate))
-
-mul-if3 : tie.Need-mul-if3
-mul-if3 c = search needs
 
 add-if3 : tie.Need-add-if3
 add-if3 c = omega (arith, bounds (c .before .before .args .estimate))
@@ -81,32 +54,8 @@ add-if3 c = omega (arith, bounds (c .before .before .args .estimate))
 add-if3-2 : tie.Need-add-if3-2
 add-if3-2 c = omega (arith, bounds (c .before .before .args .estimate))
 
-returns-3 : tie.Need-returns-3
-returns-3 c = search needs
-
 add-if4 : tie.Need-add-if4
 add-if4 c = omega (arith, bounds (c .before .before .before .args .estimate))
-
-mul-if4 : tie.Need-mul-if4
-mul-if4 c = search needs
-
-add-if4-2 : tie.Need-add-if4-2
-add-if4-2 c = search needs
-
-returns-4 : tie.Need-returns-4
-returns-4 c = search needs
-
-add-if5 : tie.Need-add-if5
-add-if5 c = search needs
-
-add-up : tie.Need-add-up
-add-up c = search needs
-
-add-if6 : tie.Need-add-if6
-add-if6 c = search needs
-
-sub-result : tie.Need-sub-result
-sub-result c = search needs
 
 returns-5 : tie.Need-returns-5
 returns-5 c = λ _. fall (target (c .before .before)) (digits (estimate (c .before .before))) (n (c .before .before)) (taken (c .before .before)) (omega arith) (balance (c .before .before)) (c .before .before .if4 .left) (c .if6 .taken)
@@ -121,31 +70,31 @@ pub corrected-root-spec : {M : Type 1} → statement M
 corrected-root-spec =
     tie.close
     (tie.spec
-    add-q
+    (λ c. search needs)
     mul-ab
     mul-high
     add-high
-    mul-low
+    (λ c. search needs)
     mul-low-2
     add-low
-    add-top
-    returns
-    returns-2
-    mul-n
-    mul-n-2
-    add-n
+    (λ c. search needs)
+    (λ c. search needs)
+    (λ c. search needs)
+    (λ c. search needs)
+    (λ c. search needs)
+    (λ c. search needs)
     add-square
-    mul-if3
+    (λ c. search needs)
     add-if3
     add-if3-2
-    returns-3
+    (λ c. search needs)
     add-if4
-    mul-if4
-    add-if4-2
-    returns-4
-    add-if5
-    add-up
-    add-if6
-    sub-result
+    (λ c. search needs)
+    (λ c. search needs)
+    (λ c. search needs)
+    (λ c. search needs)
+    (λ c. search needs)
+    (λ c. search needs)
+    (λ c. search needs)
     returns-5
     returns-6)

@@ -6,20 +6,11 @@ use Rattle.roots.proofs.Bits.{no-nan, lt-no-nan}
 use Rattle.roots.proofs.estimated_bits.Statement.{statement}
 use Rattle.roots.proofs.estimated_bits.Tie as tie
 
-sub-first : tie.Need-sub-first
-sub-first c = search needs
-
 float-from-bits-first : tie.Need-float-from-bits-first
 float-from-bits-first c = no-nan (0x5fe4000000000000 - c .args .b / 2) (omega arith)
 
 float-to-bits-result : tie.Need-float-to-bits-result
 float-to-bits-result c = lt-no-nan _ _ (c .if1 .taken)
 
-returns : tie.Need-returns
-returns c = search needs
-
-returns-2 : tie.Need-returns-2
-returns-2 c = search needs
-
 pub estimated-bits-spec : {M : Type 1} → statement M
-estimated-bits-spec = tie.close (tie.spec sub-first float-from-bits-first float-to-bits-result returns returns-2)
+estimated-bits-spec = tie.close (tie.spec (λ c. search needs) float-from-bits-first float-to-bits-result (λ c. search needs) (λ c. search needs))

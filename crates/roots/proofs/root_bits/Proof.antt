@@ -14,12 +14,6 @@ even g h = omega arith
 joined : (c : tie.Joined1) → Even (c .before .args .m) (c .before .args .g) (c .if1 .n)
 joined c = ⊎-elim (λ w. inl (w .0 .taken, w .1)) (λ w. inr (even (c .before .args .g) (w .0 .left), w .1)) (c .if1 .came)
 
-mul-n : tie.Need-mul-n
-mul-n c = search needs
-
-mul-result : tie.Need-mul-result
-mul-result c = search needs
-
 nearest-root-requires : tie.Need-nearest-root-requires
 nearest-root-requires c κs =
     let p = c .before .pre in
@@ -35,4 +29,4 @@ add-result : tie.Need-add-result
 add-result c = omega (arith, returns c .1)
 
 pub root-bits-spec : {M : Type 1} → statement M
-root-bits-spec = tie.close (tie.spec mul-n mul-result nearest-root-requires add-result returns)
+root-bits-spec = tie.close (tie.spec (λ c. search needs) (λ c. search needs) nearest-root-requires add-result returns)

@@ -23,15 +23,6 @@ split-requires : tie.Need-split-requires
 unfolding ofBits
 split-requires c κs = let s = c .before .before in (bits-pos (s .args .x) (held s) (c .before .if1 .taken), c .if2 .left)
 
-add-root-bits : tie.Need-add-root-bits
-add-root-bits c = search needs
-
-estimated-bits-requires : tie.Need-estimated-bits-requires
-estimated-bits-requires c κs = search needs
-
-root-bits-requires : tie.Need-root-bits-requires
-root-bits-requires c κs = search needs
-
 float-from-bits-result : tie.Need-float-from-bits-result
 float-from-bits-result c = no-nan (c .root-bits .result) (c .root-bits .ensures .1)
 
@@ -57,9 +48,9 @@ sqrt-spec =
     float-to-bits-b
     returns
     split-requires
-    add-root-bits
-    estimated-bits-requires
-    root-bits-requires
+    (λ c. search needs)
+    (λ c κs. search needs)
+    (λ c κs. search needs)
     float-from-bits-result
     returns-2
     returns-3

@@ -17,9 +17,6 @@ Inv-loop counts times freqs centers table o raan0 u0 w₀ k₀ w k =
 abbrev μ-loop : tie.MeasureT-loop
 μ-loop counts times freqs centers table o raan0 u0 w₀ k₀ w k = 15 - k
 
-opening-requires : tie.Need-opening-requires Inv-loop μ-loop
-opening-requires c κs = search needs
-
 loop-holds : tie.Need-loop-holds Inv-loop μ-loop
 loop-holds c = search loops
 
@@ -35,9 +32,6 @@ loop-less c = search loops
 loop-again : tie.Need-loop-again Inv-loop μ-loop
 loop-again c = search loops
 
-finished-requires : tie.Need-finished-requires Inv-loop μ-loop
-finished-requires c κs = search needs
-
 returns : tie.Need-returns Inv-loop μ-loop
 unfolding trajectoryOf
 returns c = c .finished .ensures ∙ ap (finishedOf _) (ends (c .before .loop-test .left) (c .before .before .loop .inv .1) ∙ ap (for 0 15 (stepOf _)) (c .before .before .before .opening .ensures))
@@ -48,11 +42,11 @@ langevin-trajectory-spec =
     (tie.spec
     Inv-loop
     μ-loop
-    opening-requires
+    (λ c κs. search needs)
     loop-holds
     step-requires
     add-k
     loop-less
     loop-again
-    finished-requires
+    (λ c κs. search needs)
     returns)

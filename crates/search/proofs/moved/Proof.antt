@@ -7,12 +7,9 @@ use borrow.Author.Needs.{needs}
 use Rattle.search.proofs.moved.Statement.{statement}
 use Rattle.search.proofs.moved.Tie as tie
 
-rem-euclid-requires : tie.Need-rem-euclid-requires
-rem-euclid-requires c κs = search needs
-
 returns : tie.Need-returns
 unfolding movedOf two pi ofBits round
 returns c = simp (c .rem-euclid .ensures)
 
 pub moved-spec : {M : Type 1} → statement M
-moved-spec = tie.close (tie.spec rem-euclid-requires returns)
+moved-spec = tie.close (tie.spec (λ c κs. search needs) returns)

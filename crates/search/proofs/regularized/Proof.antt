@@ -8,14 +8,8 @@ use borrow.Author.Needs.{needs}
 use Rattle.search.proofs.regularized.Statement.{statement}
 use Rattle.search.proofs.regularized.Tie as tie
 
-array-share-prefix-history : tie.Need-array-share-prefix-history
-array-share-prefix-history c = search needs
-
 slice-aggregate-variation : tie.Need-slice-aggregate-variation
 slice-aggregate-variation c = sym (length-take-le _ _ (omega arith))
-
-variation-requires : tie.Need-variation-requires
-variation-requires c κs = search needs
 
 returns : tie.Need-returns
 unfolding regularizedOf ofBits round
@@ -24,4 +18,4 @@ returns c = simp (c .variation .ensures)
 pub regularized-spec : {M : Type 1} → statement M
 regularized-spec =
     tie.close
-    (tie.spec array-share-prefix-history slice-aggregate-variation variation-requires returns)
+    (tie.spec (λ c. search needs) slice-aggregate-variation (λ c κs. search needs) returns)

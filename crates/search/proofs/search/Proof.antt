@@ -19,33 +19,9 @@ Inv-loop counts times freqs centers table o first count rng₀ best₀ end j₀ 
 abbrev μ-loop : tie.MeasureT-loop
 μ-loop counts times freqs centers table o first count rng₀ best₀ end j₀ rng best j = end - j
 
-new-requires : tie.Need-new-requires Inv-loop μ-loop
-new-requires c κs = search needs
-
-mul-advance : tie.Need-mul-advance Inv-loop μ-loop
-mul-advance c = search needs
-
-advance-requires : tie.Need-advance-requires Inv-loop μ-loop
-advance-requires c κs = search needs
-
-add-end : tie.Need-add-end Inv-loop μ-loop
-add-end c = search needs
-
 loop-holds : tie.Need-loop-holds Inv-loop μ-loop
 unfolding searchOf largest ofBits
 loop-holds c = (omega arith, advanced _ (c .before .new .ensures) (c .advance .ensures), begins refl)
-
-grid-requires : tie.Need-grid-requires Inv-loop μ-loop
-grid-requires c κs = search needs
-
-grid-requires-2 : tie.Need-grid-requires-2 Inv-loop μ-loop
-grid-requires-2 c κs = search needs
-
-langevin-trajectory-requires : tie.Need-langevin-trajectory-requires Inv-loop μ-loop
-langevin-trajectory-requires c κs = search needs
-
-better-requires : tie.Need-better-requires Inv-loop μ-loop
-better-requires c κs = search needs
 
 add-j : tie.Need-add-j Inv-loop μ-loop
 add-j c = record { fits = omega (arith, c .before .before .before .before .before .loop-test .taken, c .before .before .before .before .before .before .before .before .before .before .before .before .before .pre .1) }
@@ -68,15 +44,15 @@ search-spec =
     (tie.spec
     Inv-loop
     μ-loop
-    new-requires
-    mul-advance
-    advance-requires
-    add-end
+    (λ c κs. search needs)
+    (λ c. search needs)
+    (λ c κs. search needs)
+    (λ c. search needs)
     loop-holds
-    grid-requires
-    grid-requires-2
-    langevin-trajectory-requires
-    better-requires
+    (λ c κs. search needs)
+    (λ c κs. search needs)
+    (λ c κs. search needs)
+    (λ c κs. search needs)
     add-j
     loop-less
     loop-again

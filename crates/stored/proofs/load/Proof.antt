@@ -25,12 +25,6 @@ known c = counted (start (c .before .before .before) .args .b .now) (c .before .
 good : (c : tie.Else2) → timesInRange (timesIn (start (c .before .before .before .before .before) .args .b .now)) ≡ true
 good c = sym (tested (known (c .before .before)) (c .before .in-range-at .ensures)) ∙ not-false _ (c .if2 .left)
 
-sized-right-requires : tie.Need-sized-right-requires
-sized-right-requires c κs = search needs
-
-not-loaded-requires : tie.Need-not-loaded-requires
-not-loaded-requires c κs = search needs
-
 returns : tie.Need-returns
 returns c =
     let a = start (c .before .before) .args in
@@ -42,26 +36,14 @@ word-at-requires c κs = omega (arith, sizes c .size)
 total-at-requires : tie.Need-total-at-requires
 total-at-requires c κs = (omega (arith, sizes (c .before) .size, c .word-at .ensures .is), omega (arith, sizes (c .before) .passes, c .word-at .ensures .is))
 
-mul-at : tie.Need-mul-at
-mul-at c = search needs
-
-add-at : tie.Need-add-at
-add-at c = search needs
-
 in-range-at-requires : tie.Need-in-range-at-requires
 in-range-at-requires c κs = let z = sizes (c .before .before) in let k = known c in (omega (arith, z .size, k .passes, k .samples), omega (arith, z .samples, k .samples))
-
-not-loaded-requires-2 : tie.Need-not-loaded-requires-2
-not-loaded-requires-2 c κs = search needs
 
 returns-2 : tie.Need-returns-2
 returns-2 c =
     let i = c .before .before in
     let a = start (i .before .before .before .before) .args in
     load-range (a .b .now) (a .counts .now) (a .times .now) (a .freqs .now) (c .not-loaded2 .ensures) (ok (i .before .before .before)) (sym (tested (known (i .before)) (i .in-range-at .ensures)) ∙ not-true _ (c .before .if2 .taken))
-
-not-loaded-requires-3 : tie.Need-not-loaded-requires-3
-not-loaded-requires-3 c κs = search needs
 
 returns-3 : tie.Need-returns-3
 returns-3 c =
@@ -70,18 +52,12 @@ returns-3 c =
     let a = start (i .before .before .before .before) .args in
     load-counts (a .b .now) (a .counts .now) (a .times .now) (a .freqs .now) (known (i .before)) (ok (i .before .before .before)) (good e) (c .not-loaded3 .ensures) (c .before .if3 .taken)
 
-not-loaded-requires-4 : tie.Need-not-loaded-requires-4
-not-loaded-requires-4 c κs = search needs
-
 returns-4 : tie.Need-returns-4
 returns-4 c =
     let e = c .before .before .before in
     let i = e .before in
     let a = start (i .before .before .before .before) .args in
     load-times (a .b .now) (a .counts .now) (a .times .now) (a .freqs .now) (known (i .before)) (ok (i .before .before .before)) (good e) (c .not-loaded4 .ensures) (c .before .before .if3 .left) (c .before .if4 .taken)
-
-not-loaded-requires-5 : tie.Need-not-loaded-requires-5
-not-loaded-requires-5 c κs = search needs
 
 returns-5 : tie.Need-returns-5
 returns-5 c =
@@ -108,12 +84,6 @@ load-times-requires c κs =
     let k = known t in
     (omega (arith, z .size, k .passes, k .samples), omega (arith, e5 .before .if4 .left))
 
-mul-load-freqs : tie.Need-mul-load-freqs
-mul-load-freqs c = search needs
-
-add-load-freqs : tie.Need-add-load-freqs
-add-load-freqs c = search needs
-
 load-freqs-requires : tie.Need-load-freqs-requires
 load-freqs-requires c κs =
     let e5 = c .before .before .before .before .before .before .before .before in
@@ -122,15 +92,6 @@ load-freqs-requires c κs =
     let z = sizes (t .before .before) in
     let k = known t in
     (omega (arith, z .size, k .passes, k .samples), omega (arith, e5 .if5 .left))
-
-same-length : tie.Need-same-length
-same-length c = search needs
-
-same-length-2 : tie.Need-same-length-2
-same-length-2 c = search needs
-
-same-length-3 : tie.Need-same-length-3
-same-length-3 c = search needs
 
 returns-6 : tie.Need-returns-6
 returns-6 c =
@@ -148,28 +109,28 @@ pub load-spec : {M : Type 1} → statement M
 load-spec =
     tie.close
     (tie.spec
-    sized-right-requires
-    not-loaded-requires
+    (λ c κs. search needs)
+    (λ c κs. search needs)
     returns
     word-at-requires
     total-at-requires
-    mul-at
-    add-at
+    (λ c. search needs)
+    (λ c. search needs)
     in-range-at-requires
-    not-loaded-requires-2
+    (λ c κs. search needs)
     returns-2
-    not-loaded-requires-3
+    (λ c κs. search needs)
     returns-3
-    not-loaded-requires-4
+    (λ c κs. search needs)
     returns-4
-    not-loaded-requires-5
+    (λ c κs. search needs)
     returns-5
     load-counts-requires
     load-times-requires
-    mul-load-freqs
-    add-load-freqs
+    (λ c. search needs)
+    (λ c. search needs)
     load-freqs-requires
-    same-length
-    same-length-2
-    same-length-3
+    (λ c. search needs)
+    (λ c. search needs)
+    (λ c. search needs)
     returns-6)

@@ -12,23 +12,11 @@ use Rattle.stored.proofs.sized_right.Tie as tie
 returns : tie.Need-returns
 returns c = short (c .before .before .args .b .now) (omega arith)
 
-word-at-requires : tie.Need-word-at-requires
-word-at-requires c κs = search needs
-
 returns-2 : tie.Need-returns-2
 returns-2 c = many-passes (c .before .before .before .before .args .b .now) (subst (λ (n : ℕ). 16 < n) (c .before .word-at .ensures .is) (c .if2 .taken))
 
-mul-if3 : tie.Need-mul-if3
-mul-if3 c = search needs
-
-add-if3 : tie.Need-add-if3
-add-if3 c = search needs
-
 returns-3 : tie.Need-returns-3
 returns-3 c = let b = c .before .before .before .before .before .args .b .now in short b (subst (λ (n : ℕ). length b < 4 + 4 * n) (c .before .before .word-at .ensures .is) (c .if3 .taken))
-
-total-at-requires : tie.Need-total-at-requires
-total-at-requires c κs = search needs
 
 returns-4 : tie.Need-returns-4
 returns-4 c =
@@ -36,18 +24,6 @@ returns-4 c =
     let b = w .before .before .before .args .b .now in
     let k = counted b (w .word-at .ensures .is) (c .before .total-at .ensures) in
     many-samples b (subst (λ (n : ℕ). 4096 < n) (k .samples) (c .if4 .taken))
-
-mul-result : tie.Need-mul-result
-mul-result c = search needs
-
-add-result : tie.Need-add-result
-add-result c = search needs
-
-mul-result-2 : tie.Need-mul-result-2
-mul-result-2 c = search needs
-
-add-result-2 : tie.Need-add-result-2
-add-result-2 c = search needs
 
 returns-5 : tie.Need-returns-5
 returns-5 c =
@@ -62,15 +38,15 @@ sized-right-spec =
     tie.close
     (tie.spec
     returns
-    word-at-requires
+    (λ c κs. search needs)
     returns-2
-    mul-if3
-    add-if3
+    (λ c. search needs)
+    (λ c. search needs)
     returns-3
-    total-at-requires
+    (λ c κs. search needs)
     returns-4
-    mul-result
-    add-result
-    mul-result-2
-    add-result-2
+    (λ c. search needs)
+    (λ c. search needs)
+    (λ c. search needs)
+    (λ c. search needs)
     returns-5)

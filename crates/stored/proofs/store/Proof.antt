@@ -21,22 +21,10 @@ ranged c = sym (c .before .all-in-range .ensures) ∙ not-false _ (c .if1 .left)
 agreed : (c : tie.Else2) → sizesAgree (start (c .before .before .before) .args .counts .now) (length (start (c .before .before .before) .args .times .now)) (length (start (c .before .before .before) .args .freqs .now)) (length (start (c .before .before .before) .args .counts .now)) ≡ true
 agreed c = sym (c .before .sizes-agree .ensures) ∙ not-false _ (c .if2 .left)
 
-all-in-range-requires : tie.Need-all-in-range-requires
-all-in-range-requires c κs = search needs
-
-not-stored-requires : tie.Need-not-stored-requires
-not-stored-requires c κs = search needs
-
 returns : tie.Need-returns
 returns c =
     let a = start (c .before .before) .args in
     store-range (a .counts .now) (a .times .now) (a .freqs .now) (a .out .now) (c .not-stored .ensures) (sym (c .before .before .all-in-range .ensures) ∙ not-true _ (c .before .if1 .taken))
-
-sizes-agree-requires : tie.Need-sizes-agree-requires
-sizes-agree-requires c κs = search needs
-
-not-stored-requires-2 : tie.Need-not-stored-requires-2
-not-stored-requires-2 c κs = search needs
 
 returns-2 : tie.Need-returns-2
 returns-2 c =
@@ -44,20 +32,8 @@ returns-2 c =
     let a = start (g .before .before) .args in
     store-sizes (a .counts .now) (a .times .now) (a .freqs .now) (a .out .now) (ranged (g .before)) (c .not-stored2 .ensures) (sym (g .sizes-agree .ensures) ∙ not-true _ (c .before .if2 .taken))
 
-mul-at : tie.Need-mul-at
-mul-at c = search needs
-
-add-at : tie.Need-add-at
-add-at c = search needs
-
-mul-size : tie.Need-mul-size
-mul-size c = search needs
-
 add-size : tie.Need-add-size
 add-size c = let z = sizes (agreed c) in omega (arith, z .few, z .small)
-
-not-stored-requires-3 : tie.Need-not-stored-requires-3
-not-stored-requires-3 c κs = search needs
 
 returns-3 : tie.Need-returns-3
 returns-3 c =
@@ -65,26 +41,8 @@ returns-3 c =
     let a = start (e .before .before .before) .args in
     store-short (a .counts .now) (a .times .now) (a .freqs .now) (a .out .now) (ranged (e .before .before)) (agreed e) (c .not-stored3 .ensures) (c .before .if3 .taken)
 
-put-word-requires : tie.Need-put-word-requires
-put-word-requires c κs = search needs
-
-store-counts-requires : tie.Need-store-counts-requires
-store-counts-requires c κs = search needs
-
-store-times-requires : tie.Need-store-times-requires
-store-times-requires c κs = search needs
-
-mul-store-freqs : tie.Need-mul-store-freqs
-mul-store-freqs c = search needs
-
-add-store-freqs : tie.Need-add-store-freqs
-add-store-freqs c = search needs
-
 store-freqs-requires : tie.Need-store-freqs-requires
 store-freqs-requires c κs = let e = c .before .before .before .before .before .before .before .before .before .before .before .before .before in omega (arith, sizes (agreed (e .before)) .pairs, e .if3 .left)
-
-same-length : tie.Need-same-length
-same-length c = search needs
 
 returns-4 : tie.Need-returns-4
 returns-4 c =
@@ -101,23 +59,23 @@ pub store-spec : {M : Type 1} → statement M
 store-spec =
     tie.close
     (tie.spec
-    all-in-range-requires
-    not-stored-requires
+    (λ c κs. search needs)
+    (λ c κs. search needs)
     returns
-    sizes-agree-requires
-    not-stored-requires-2
+    (λ c κs. search needs)
+    (λ c κs. search needs)
     returns-2
-    mul-at
-    add-at
-    mul-size
+    (λ c. search needs)
+    (λ c. search needs)
+    (λ c. search needs)
     add-size
-    not-stored-requires-3
+    (λ c κs. search needs)
     returns-3
-    put-word-requires
-    store-counts-requires
-    store-times-requires
-    mul-store-freqs
-    add-store-freqs
+    (λ c κs. search needs)
+    (λ c κs. search needs)
+    (λ c κs. search needs)
+    (λ c. search needs)
+    (λ c. search needs)
     store-freqs-requires
-    same-length
+    (λ c. search needs)
     returns-4)

@@ -9,9 +9,6 @@ use Rattle.tle.proofs.Accepted.{epoch-up}
 use Rattle.tle.proofs.first_line.Statement.{statement}
 use Rattle.tle.proofs.first_line.Tie as tie
 
-epoch-of-requires : tie.Need-epoch-of-requires
-epoch-of-requires c κs = search needs
-
 line-1-requires : tie.Need-line-1-requires
 line-1-requires c κs =
     subst (λ (e : Epoch). T (printable (e .day) 8 12 20 69)) (sym (c .epoch-of .ensures))
@@ -22,4 +19,4 @@ unfolding line1
 returns c = c .line-1 .ensures ∙ ap line1 (c .before .epoch-of .ensures)
 
 pub first-line-spec : {M : Type 1} → statement M
-first-line-spec = tie.close (tie.spec epoch-of-requires line-1-requires returns)
+first-line-spec = tie.close (tie.spec (λ c κs. search needs) line-1-requires returns)

@@ -7,20 +7,8 @@ use Rattle.tle.proofs.Answers.{bad-moment, bad-orbit, bad-name, too-sho
 use Rattle.tle.proofs.format_tle_catalog.Statement.{statement}
 use Rattle.tle.proofs.format_tle_catalog.Tie as tie
 
-instant-of-requires : tie.Need-instant-of-requires
-instant-of-requires c κs = search needs
-
-enum-known-t : tie.Need-enum-known-t
-enum-known-t c = search needs
-
-enum-told : tie.Need-enum-told
-enum-told c = search needs
-
 returns : tie.Need-returns
 returns c = bad-moment _ _ _ (outside _ _ (sym (c .enum-told .given .1) ∙ c .before .before .instant-of .ensures))
-
-accepted-orbit-requires : tie.Need-accepted-orbit-requires
-accepted-orbit-requires c κs = search needs
 
 returns-2 : tie.Need-returns-2
 returns-2 c =
@@ -28,9 +16,6 @@ returns-2 c =
     let k = o .before in
     bad-orbit _ _ _ (at-is _ _ _ (sym (k .before .t .given .1) ∙ k .before .before .before .instant-of .ensures) .yes)
     (sym (o .accepted-orbit .ensures) ∙ not-true (o .accepted-orbit .result) (c .if1 .taken))
-
-accepted-name-requires : tie.Need-accepted-name-requires
-accepted-name-requires c κs = search needs
 
 returns-3 : tie.Need-returns-3
 returns-3 c =
@@ -40,9 +25,6 @@ returns-3 c =
     bad-name _ _ _ (at-is _ _ _ (sym (k .before .t .given .1) ∙ k .before .before .before .instant-of .ensures) .yes)
     (sym (o .accepted-orbit .ensures) ∙ not-false (o .accepted-orbit .result) (n .before .if1 .left))
     (sym (n .accepted-name .ensures) ∙ not-true (n .accepted-name .result) (c .if2 .taken))
-
-add-length : tie.Need-add-length
-add-length c = search needs
 
 returns-4 : tie.Need-returns-4
 returns-4 c =
@@ -66,12 +48,6 @@ second-line-requires c κs =
     let o = n .before .before in
     subst T (sym (sym (o .accepted-orbit .ensures) ∙ not-false (o .accepted-orbit .result) (n .before .if1 .left))) tt
 
-join-requires : tie.Need-join-requires
-join-requires c κs = search needs
-
-same-length : tie.Need-same-length
-same-length c = search needs
-
 returns-5 : tie.Need-returns-5
 returns-5 c =
     let j = c .before .before in
@@ -91,18 +67,18 @@ pub format-tle-catalog-spec : {M : Type 1} → statement M
 format-tle-catalog-spec =
     tie.close
     (tie.spec
-    instant-of-requires
-    enum-known-t
-    enum-told
+    (λ c κs. search needs)
+    (λ c. search needs)
+    (λ c. search needs)
     returns
-    accepted-orbit-requires
+    (λ c κs. search needs)
     returns-2
-    accepted-name-requires
+    (λ c κs. search needs)
     returns-3
-    add-length
+    (λ c. search needs)
     returns-4
     first-line-requires
     second-line-requires
-    join-requires
-    same-length
+    (λ c κs. search needs)
+    (λ c. search needs)
     returns-5)

@@ -5,24 +5,6 @@ use borrow.Author.Needs.{needs}
 use Rattle.tle.proofs.join.Statement.{statement}
 use Rattle.tle.proofs.join.Tie as tie
 
-put-line-requires : tie.Need-put-line-requires
-put-line-requires c κs = search needs
-
-add-put-line : tie.Need-add-put-line
-add-put-line c = search needs
-
-put-line-requires-2 : tie.Need-put-line-requires-2
-put-line-requires-2 c κs = search needs
-
-add-put-line-2 : tie.Need-add-put-line-2
-add-put-line-2 c = search needs
-
-put-line-requires-3 : tie.Need-put-line-requires-3
-put-line-requires-3 c κs = search needs
-
-same-length : tie.Need-same-length
-same-length c = search needs
-
 returns : tie.Need-returns
 returns c =
     let a = c .before .before .before .before .before .before .before .before .before .before .before .before .before .before .before .before .args in
@@ -33,10 +15,10 @@ pub join-spec : {M : Type 1} → statement M
 join-spec =
     tie.close
     (tie.spec
-    put-line-requires
-    add-put-line
-    put-line-requires-2
-    add-put-line-2
-    put-line-requires-3
-    same-length
+    (λ c κs. search needs)
+    (λ c. search needs)
+    (λ c κs. search needs)
+    (λ c. search needs)
+    (λ c κs. search needs)
+    (λ c. search needs)
     returns)

@@ -13,18 +13,6 @@ use Rattle.tle.proofs.Accepted.{sound, angle-up, motion-up}
 use Rattle.tle.proofs.second_line.Statement.{statement}
 use Rattle.tle.proofs.second_line.Tie as tie
 
-degrees-requires : tie.Need-degrees-requires
-degrees-requires c κs = search needs
-
-degrees-requires-2 : tie.Need-degrees-requires-2
-degrees-requires-2 c κs = search needs
-
-degrees-requires-3 : tie.Need-degrees-requires-3
-degrees-requires-3 c κs = search needs
-
-mean-motion-requires : tie.Need-mean-motion-requires
-mean-motion-requires c κs = search needs
-
 -- an angle's columns
 angle : (x r : Float) (at : ℕ) → T (angleFits x) → at ≤ 61 → r ≡ printedDegrees x → T (printable r 4 8 at 69)
 angle x r at f h e =
@@ -51,4 +39,4 @@ returns c =
 pub second-line-spec : {M : Type 1} → statement M
 second-line-spec =
     tie.close
-    (tie.spec degrees-requires degrees-requires-2 degrees-requires-3 mean-motion-requires line-2-requires returns)
+    (tie.spec (λ c κs. search needs) (λ c κs. search needs) (λ c κs. search needs) (λ c κs. search needs) line-2-requires returns)

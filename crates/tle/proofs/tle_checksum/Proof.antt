@@ -31,9 +31,6 @@ step l i h k =
     let f : i + 1 ≡ suc i = omega arith in
     ap weightSum (drop-cons (take 68 l) i 0 h) ∙ rw (getD-take 68 l i 0 k, f)
 
-at-most-68-requires : tie.Need-at-most-68-requires Inv-loop μ-loop
-at-most-68-requires c κs = search needs
-
 loop-holds : tie.Need-loop-holds Inv-loop μ-loop
 loop-holds c =
     let e = c .at-most-68 .ensures in
@@ -46,20 +43,8 @@ loop-holds c =
       is = omega arith;
     }
 
-shared-slice-read-weight : tie.Need-shared-slice-read-weight Inv-loop μ-loop
-shared-slice-read-weight c = search needs
-
-weight-requires : tie.Need-weight-requires Inv-loop μ-loop
-weight-requires c κs = search needs
-
 add-sum : tie.Need-add-sum Inv-loop μ-loop
 add-sum c = omega (arith, c .weight .ensures .1)
-
-add-i : tie.Need-add-i Inv-loop μ-loop
-add-i c = search needs
-
-loop-less : tie.Need-loop-less Inv-loop μ-loop
-loop-less c = search needs
 
 loop-again : tie.Need-loop-again Inv-loop μ-loop
 loop-again c =
@@ -95,12 +80,12 @@ tle-checksum-spec =
     (tie.spec
     Inv-loop
     μ-loop
-    at-most-68-requires
+    (λ c κs. search needs)
     loop-holds
-    shared-slice-read-weight
-    weight-requires
+    (λ c. search needs)
+    (λ c κs. search needs)
     add-sum
-    add-i
-    loop-less
+    (λ c. search needs)
+    (λ c. search needs)
     loop-again
     returns)

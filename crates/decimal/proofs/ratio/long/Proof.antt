@@ -40,15 +40,6 @@ raised-requires c κs =
     let s = c .before .before .before .before in
     (n .ensures .0, l .ensures .0, lt-of-lt-of-le (mul-pos (s .pre .0) (ten-pos (s .args .up))) (le-of-eq (sym (n .ensures .1))), l .ensures .2, l .ensures .1, l .ensures .4, l .ensures .5)
 
-divided-requires : tie.Need-divided-requires
-divided-requires c κs = search needs
-
-rounded-requires : tie.Need-rounded-requires
-rounded-requires c κs = search needs
-
-mul-result : tie.Need-mul-result
-mul-result c = search needs
-
 -- the value of N / M by the parts that were found, on plain numbers
 module _ (N M n b i k q₀ r q : ℕ) (I : 1022 ≤ i) (J : i < 1186) (D : 0 < M) (P : 0 < b) (eb : b ≡ M * 2 ^ (i - 1022)) (en : n * 2 ^ k ≡ N * 2 ^ i) (K : k ≤ i) (lo : b ≤ n) (hi : n < b * 2)
     (eq : q₀ * b + r ≡ n * 2 ^ 52) (R : r < b) (er : q ≡ nearest q₀ (compare (r * 2) b)) where
@@ -99,8 +90,8 @@ long-spec =
     tens-requires-2
     lowered-requires
     raised-requires
-    divided-requires
-    rounded-requires
-    mul-result
+    (λ c κs. search needs)
+    (λ c κs. search needs)
+    (λ c. search needs)
     add-result
     returns)

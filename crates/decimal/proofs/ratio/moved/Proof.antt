@@ -11,27 +11,12 @@ use borrow.Author.Needs.{needs}
 use Rattle.decimal.proofs.ratio.moved.Statement.{statement}
 use Rattle.decimal.proofs.ratio.moved.Tie as tie
 
-rem-t : tie.Need-rem-t
-rem-t c = search needs
-
 mul-t : tie.Need-mul-t
 mul-t c = omega (arith, rest-fits (c .args .d) (c .args .b) (c .args .p) (c .pre .0) (c .pre .2))
-
-div-n : tie.Need-div-n
-div-n c = search needs
-
-mul-n : tie.Need-mul-n
-mul-n c = search needs
-
-div-n-2 : tie.Need-div-n-2
-div-n-2 c = search needs
 
 add-n : tie.Need-add-n
 add-n c =
     omega (arith, rest-fits (c .args .d) (c .args .b) (c .args .p) (c .pre .0) (c .pre .2), div-le-self (c .args .d % c .args .b * c .args .p) (c .args .b), c .pre .3)
-
-rem-r : tie.Need-rem-r
-rem-r c = search needs
 
 mul-r : tie.Need-mul-r
 mul-r c = omega (arith, last-fits (c .args .d) (c .args .b) (c .args .p) (c .pre .0) (c .pre .1) (c .pre .2))
@@ -59,13 +44,13 @@ pub moved-spec : {M : Type 1} → statement M
 moved-spec =
     tie.close
     (tie.spec
-    rem-t
+    (λ c. search needs)
     mul-t
-    div-n
-    mul-n
-    div-n-2
+    (λ c. search needs)
+    (λ c. search needs)
+    (λ c. search needs)
     add-n
-    rem-r
+    (λ c. search needs)
     mul-r
     returns
     add-result

@@ -21,9 +21,6 @@ returns c = λ n. absurd (n refl)
 returns-2 : tie.Need-returns-2
 returns-2 c = λ n. absurd (n refl)
 
-power-requires : tie.Need-power-requires
-power-requires c κs = search needs
-
 positive : (c : tie.After-power) → 0 < c .power .result
 positive c = lt-of-lt-of-le (ten-pos _) (le-of-eq (sym (c .power .ensures)))
 
@@ -41,12 +38,6 @@ returns-3 c = λ n. absurd (n refl)
 
 returns-4 : tie.Need-returns-4
 returns-4 c = λ n. absurd (n refl)
-
-cast-s : tie.Need-cast-s
-cast-s c = search needs
-
-shl-p : tie.Need-shl-p
-shl-p c = search needs
 
 abbrev given : tie.Else4 → ℕ
 given c = c .before .before .before .before .before .before .args .d
@@ -79,14 +70,8 @@ div-if5 c = rw (shift c) (pow-pos _)
 returns-5 : tie.Need-returns-5
 returns-5 c = λ n. absurd (n refl)
 
-sub-result : tie.Need-sub-result
-sub-result c = search needs
-
 sub-result-2 : tie.Need-sub-result-2
 sub-result-2 c = omega (arith, c .before .before .before .room .ensures .0, upper (c .before))
-
-mul-result : tie.Need-mul-result
-mul-result c = search needs
 
 moved-requires : tie.Need-moved-requires
 moved-requires c κs =
@@ -119,19 +104,19 @@ quick-spec =
     (tie.spec
     returns
     returns-2
-    power-requires
+    (λ c κs. search needs)
     room-requires
     shl-e
     div-z
     returns-3
     returns-4
-    cast-s
-    shl-p
+    (λ c. search needs)
+    (λ c. search needs)
     div-if5
     returns-5
-    sub-result
+    (λ c. search needs)
     sub-result-2
-    mul-result
+    (λ c. search needs)
     moved-requires
     add-result
     returns-6)

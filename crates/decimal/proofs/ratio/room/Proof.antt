@@ -11,14 +11,8 @@ use Rattle.decimal.proofs.ratio.room.Tie as tie
 cast-z : tie.Need-cast-z
 cast-z c = omega (arith, leading-le 64 (c .args .d))
 
-div-w : tie.Need-div-w
-div-w c = search needs
-
 cast-w : tie.Need-cast-w
 cast-w c = omega (arith, leading-le 64 (c .args .d / c .args .b))
-
-returns : tie.Need-returns
-returns c = search needs
 
 returns-2 : tie.Need-returns-2
 returns-2 c =
@@ -32,4 +26,4 @@ returns-4 : tie.Need-returns-4
 returns-4 c = let a = c .before .before .before in (c .if3 .left, raised-fits (a .args .d) (leadingZeros 64 (a .args .d)) (a .fits .d .fits) (le-refl _))
 
 pub room-spec : {M : Type 1} → statement M
-room-spec = tie.close (tie.spec cast-z div-w cast-w returns returns-2 returns-3 returns-4)
+room-spec = tie.close (tie.spec cast-z (λ c. search needs) cast-w (λ c. search needs) returns-2 returns-3 returns-4)

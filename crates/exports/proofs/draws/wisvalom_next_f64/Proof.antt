@@ -5,16 +5,10 @@ use borrow.Author.Needs.{needs}
 use Rattle.exports.proofs.draws.wisvalom_next_f64.Statement.{statement}
 use Rattle.exports.proofs.draws.wisvalom_next_f64.Tie as tie
 
-next-f64-requires : tie.Need-next-f64-requires
-next-f64-requires c κs = search needs
-
-new-requires : tie.Need-new-requires
-new-requires c κs = search needs
-
 returns : tie.Need-returns
 returns c =
     let e = c .before .next-f64 .ensures ∙ ap (λ s. drawOf (generator s)) (c .before .before .new .ensures) in
     (ap (λ d. d .value) e, ap (λ d. d .rng .state) e)
 
 pub wisvalom-next-f64-spec : {M : Type 1} → statement M
-wisvalom-next-f64-spec = tie.close (tie.spec new-requires next-f64-requires returns)
+wisvalom-next-f64-spec = tie.close (tie.spec (λ c κs. search needs) (λ c κs. search needs) returns)

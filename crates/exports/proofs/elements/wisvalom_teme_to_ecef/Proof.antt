@@ -4,11 +4,8 @@ use borrow.Author.Needs.{needs}
 use Rattle.exports.proofs.elements.wisvalom_teme_to_ecef.Statement.{statement}
 use Rattle.exports.proofs.elements.wisvalom_teme_to_ecef.Tie as tie
 
-teme-to-ecef-requires : tie.Need-teme-to-ecef-requires
-teme-to-ecef-requires c κs = search needs
-
 returns : tie.Need-returns
 returns c = ap six (c .before .teme-to-ecef .ensures)
 
 pub wisvalom-teme-to-ecef-spec : {M : Type 1} → statement M
-wisvalom-teme-to-ecef-spec = tie.close (tie.spec teme-to-ecef-requires returns)
+wisvalom-teme-to-ecef-spec = tie.close (tie.spec (λ c κs. search needs) returns)

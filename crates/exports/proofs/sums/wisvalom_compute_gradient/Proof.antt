@@ -7,9 +7,6 @@ use borrow.Author.Needs.{needs}
 use Rattle.exports.proofs.sums.wisvalom_compute_gradient.Statement.{statement}
 use Rattle.exports.proofs.sums.wisvalom_compute_gradient.Tie as tie
 
-compute-gradient-requires : tie.Need-compute-gradient-requires
-compute-gradient-requires c κs = search needs
-
 returns : tie.Need-returns
 returns c =
     let b = c .before .before in
@@ -26,4 +23,4 @@ returns-2 c =
     (sym (l .if1 .left) ∙ r, put _ _ _ _ _ r (l .if1 .left) (ap (λ q. four (q .gradient)) e))
 
 pub wisvalom-compute-gradient-spec : {M : Type 1} → statement M
-wisvalom-compute-gradient-spec = tie.close (tie.spec compute-gradient-requires returns returns-2)
+wisvalom-compute-gradient-spec = tie.close (tie.spec (λ c κs. search needs) returns returns-2)

@@ -6,9 +6,6 @@ use borrow.Author.Needs.{needs}
 use Rattle.exports.proofs.sums.wisvalom_compute_rss.Statement.{statement}
 use Rattle.exports.proofs.sums.wisvalom_compute_rss.Tie as tie
 
-compute-rss-requires : tie.Need-compute-rss-requires
-compute-rss-requires c κs = search needs
-
 returns : tie.Need-returns
 returns c =
     let b = c .before .before in
@@ -24,4 +21,4 @@ returns-2 c =
     (sym (c .if1 .left) ∙ r, put _ _ _ _ _ r (c .if1 .left) (ap (λ q. q .rss) e))
 
 pub wisvalom-compute-rss-spec : {M : Type 1} → statement M
-wisvalom-compute-rss-spec = tie.close (tie.spec compute-rss-requires returns returns-2)
+wisvalom-compute-rss-spec = tie.close (tie.spec (λ c κs. search needs) returns returns-2)

@@ -19,15 +19,6 @@ below a b h =
 above : (a b : ℕ) → b ≤ a → ofInt binary64 (pos (a - b)) ≡ ofInt binary64 (subℕ a b)
 above a b h = rw (le-ltb a b h)
 
-sub-nearest-u64-to-f64 : tie.Need-sub-nearest-u64-to-f64
-sub-nearest-u64-to-f64 c = search needs
-
-nearest-u64-to-f64-requires : tie.Need-nearest-u64-to-f64-requires
-nearest-u64-to-f64-requires c κs = search needs
-
-nearest-u64-to-f64-requires-2 : tie.Need-nearest-u64-to-f64-requires-2
-nearest-u64-to-f64-requires-2 c κs = search needs
-
 returns : tie.Need-returns
 returns c = rw (c .nearest-u64-to-f64 .ensures) (below _ _ (c .before .if1 .taken))
 
@@ -38,8 +29,8 @@ pub difference-spec : {M : Type 1} → statement M
 difference-spec =
     tie.close
     (tie.spec
-    sub-nearest-u64-to-f64
-    nearest-u64-to-f64-requires
-    nearest-u64-to-f64-requires-2
+    (λ c. search needs)
+    (λ c κs. search needs)
+    (λ c κs. search needs)
     returns
     returns-2)

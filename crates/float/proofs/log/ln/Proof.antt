@@ -23,17 +23,11 @@ returns-4 c = ln-infinity _ (c .if4 .taken)
 float-to-bits-log-of-bits : tie.Need-float-to-bits-log-of-bits
 float-to-bits-log-of-bits c = ln-subnormal _ (subst T (sym (c .before .before .before .before .before .good .0 .1)) tt) (record { number = c .before .before .before .before .if1 .left; positive = c .before .before .before .if2 .left; nonzero = c .before .before .if3 .left; finite = c .before .if4 .left }) (c .if5 .taken) .1
 
-log-of-bits-requires : tie.Need-log-of-bits-requires
-log-of-bits-requires c κs = search needs
-
 returns-5 : tie.Need-returns-5
 returns-5 c = let t = c .before in c .log-of-bits .ensures ∙ ln-subnormal _ (subst T (sym (t .before .before .before .before .before .good .0 .1)) tt) (record { number = t .before .before .before .before .if1 .left; positive = t .before .before .before .if2 .left; nonzero = t .before .before .if3 .left; finite = t .before .if4 .left }) (t .if5 .taken) .0
 
 float-to-bits-log-of-bits-2 : tie.Need-float-to-bits-log-of-bits-2
 float-to-bits-log-of-bits-2 c = is-number _ (record { number = c .before .before .before .before .if1 .left; positive = c .before .before .before .if2 .left; nonzero = c .before .before .if3 .left; finite = c .before .if4 .left })
-
-log-of-bits-requires-2 : tie.Need-log-of-bits-requires-2
-log-of-bits-requires-2 c κs = search needs
 
 returns-6 : tie.Need-returns-6
 returns-6 c = let t = c .before in c .log-of-bits2 .ensures ∙ ln-normal _ (subst T (sym (t .before .before .before .before .before .good .0 .1)) tt) (record { number = t .before .before .before .before .if1 .left; positive = t .before .before .before .if2 .left; nonzero = t .before .before .if3 .left; finite = t .before .if4 .left }) (t .if5 .left)
@@ -47,8 +41,8 @@ ln-spec =
     returns-3
     returns-4
     float-to-bits-log-of-bits
-    log-of-bits-requires
+    (λ c κs. search needs)
     returns-5
     float-to-bits-log-of-bits-2
-    log-of-bits-requires-2
+    (λ c κs. search needs)
     returns-6)

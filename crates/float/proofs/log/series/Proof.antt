@@ -4,12 +4,9 @@ use borrow.Author.Needs.{needs}
 use Rattle.float.proofs.log.series.Statement.{statement}
 use Rattle.float.proofs.log.series.Tie as tie
 
-log-poly-requires : tie.Need-log-poly-requires
-log-poly-requires c κs = search needs
-
 returns : tie.Need-returns
 unfolding seriesOf
 returns c = simp (c .log-poly .ensures, one-bits, two-bits, ln2-bits)
 
 pub series-spec : {M : Type 1} → statement M
-series-spec = tie.close (tie.spec log-poly-requires returns)
+series-spec = tie.close (tie.spec (λ c κs. search needs) returns)

@@ -4,29 +4,17 @@ use borrow.Author.Needs.{needs}
 use Rattle.float.proofs.trig.reduce.Statement.{statement}
 use Rattle.float.proofs.trig.reduce.Tie as tie
 
-turn-rest-requires : tie.Need-turn-rest-requires
-turn-rest-requires c κs = search needs
-
 nearest-whole-requires : tie.Need-nearest-whole-requires
 unfolding quartersOf
 nearest-whole-requires c κs =
     let e = c .before .turn-rest .ensures in
     rw (e, quarter-bits) (counted-below (c .before .before .args .v) (rw (e, quarter-bits) at (c .if1 .taken)))
 
-sub-t10 : tie.Need-sub-t10
-sub-t10 c = search needs
-
-int-to-float-t8 : tie.Need-int-to-float-t8
-int-to-float-t8 c = search needs
-
 nearest-whole-requires-2 : tie.Need-nearest-whole-requires-2
 unfolding quartersOf
 nearest-whole-requires-2 c κs =
     let e = c .before .before .turn-rest .ensures in
     rw (e, quarter-bits) (counted-above (c .before .before .before .args .v) (rw (e, quarter-bits) at (c .if2 .taken)))
-
-int-to-float-t18 : tie.Need-int-to-float-t18
-int-to-float-t18 c = search needs
 
 returns : tie.Need-returns
 unfolding Turned quartersOf
@@ -53,12 +41,12 @@ pub reduce-spec : {M : Type 1} → statement M
 reduce-spec =
     tie.close
     (tie.spec
-    turn-rest-requires
+    (λ c κs. search needs)
     nearest-whole-requires
-    sub-t10
-    int-to-float-t8
+    (λ c. search needs)
+    (λ c. search needs)
     nearest-whole-requires-2
-    int-to-float-t18
+    (λ c. search needs)
     returns
     returns-2
     returns-3)

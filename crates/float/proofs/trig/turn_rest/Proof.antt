@@ -13,11 +13,8 @@ returns c = sym (small-rem (c .before .before .args .v) (subst T (sym (c .before
 whole-rest-requires : tie.Need-whole-rest-requires
 whole-rest-requires c κs = rw (← full-bits, ← wide-bits) (search needs)
 
-returns-2 : tie.Need-returns-2
-returns-2 c = search needs
-
 returns-3 : tie.Need-returns-3
 returns-3 c = simp full-bits
 
 pub turn-rest-spec : {M : Type 1} → statement M
-turn-rest-spec = tie.close (tie.spec returns whole-rest-requires returns-2 returns-3)
+turn-rest-spec = tie.close (tie.spec returns whole-rest-requires (λ c. search needs) returns-3)

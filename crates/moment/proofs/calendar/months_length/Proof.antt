@@ -22,9 +22,6 @@ loop-holds c = (omega arith, record { is = refl; most = omega arith })
 add-k : tie.Need-add-k Inv-loop μ-loop
 add-k c = omega arith
 
-month-length-requires : tie.Need-month-length-requires Inv-loop μ-loop
-month-length-requires c κs = search needs
-
 add-days : tie.Need-add-days Inv-loop μ-loop
 add-days c = omega (arith, c .month-length .ensures .most, c .before .before .loop .inv .1 .most)
 
@@ -45,7 +42,7 @@ months-length-spec =
     μ-loop
     loop-holds
     add-k
-    month-length-requires
+    (λ c κs. search needs)
     add-days
     loop-less
     loop-again

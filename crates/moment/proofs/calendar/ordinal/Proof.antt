@@ -6,47 +6,8 @@ use borrow.Author.Needs.{needs}
 use Rattle.moment.proofs.calendar.ordinal.Statement.{statement}
 use Rattle.moment.proofs.calendar.ordinal.Tie as tie
 
-sub-result : tie.Need-sub-result
-sub-result c = search needs
-
-mul-result : tie.Need-mul-result
-mul-result c = search needs
-
-add-result : tie.Need-add-result
-add-result c = search needs
-
 returns : tie.Need-returns
 returns c = ordinal-early (c .before .before .before .before .args .d) (search needs) (search needs)
-
-cast-leap-year : tie.Need-cast-leap-year
-cast-leap-year c = search needs
-
-leap-year-requires : tie.Need-leap-year-requires
-leap-year-requires c κs = search needs
-
-mul-result-2 : tie.Need-mul-result-2
-mul-result-2 c = search needs
-
-add-result-2 : tie.Need-add-result-2
-add-result-2 c = search needs
-
-add-result-3 : tie.Need-add-result-3
-add-result-3 c = search needs
-
-add-result-4 : tie.Need-add-result-4
-add-result-4 c = search needs
-
-mul-result-3 : tie.Need-mul-result-3
-mul-result-3 c = search needs
-
-add-result-5 : tie.Need-add-result-5
-add-result-5 c = search needs
-
-add-result-6 : tie.Need-add-result-6
-add-result-6 c = search needs
-
-add-result-7 : tie.Need-add-result-7
-add-result-7 c = search needs
 
 returns-2 : tie.Need-returns-2
 returns-2 c =
@@ -62,19 +23,19 @@ pub ordinal-spec : {M : Type 1} → statement M
 ordinal-spec =
     tie.close
     (tie.spec
-    sub-result
-    mul-result
-    add-result
+    (λ c. search needs)
+    (λ c. search needs)
+    (λ c. search needs)
     returns
-    cast-leap-year
-    leap-year-requires
-    mul-result-2
-    add-result-2
-    add-result-3
-    add-result-4
-    mul-result-3
-    add-result-5
-    add-result-6
-    add-result-7
+    (λ c. search needs)
+    (λ c κs. search needs)
+    (λ c. search needs)
+    (λ c. search needs)
+    (λ c. search needs)
+    (λ c. search needs)
+    (λ c. search needs)
+    (λ c. search needs)
+    (λ c. search needs)
+    (λ c. search needs)
     returns-2
     returns-3)

@@ -23,13 +23,10 @@ add-t5 c =
     let r = ranged (c .args .t) (c .pre) in
     rw (read-shift count1970 (c .args .t) (c .fits .t) (r .size) (omega arith)) (record { fits = omega arith })
 
-cast-t7 : tie.Need-cast-t7
-cast-t7 c = search needs
-
 returns : tie.Need-returns
 returns c =
     let r = ranged (c .args .t) (c .pre) in
     rw (read-shift count1970 (c .args .t) (c .fits .t) (r .size) (omega arith)) (of-nanos (c .args .t) (c .pre))
 
 pub of-nanos-spec : {M : Type 1} → statement M
-of-nanos-spec = tie.close (tie.spec add-n cast-n add-t5 cast-t7 returns)
+of-nanos-spec = tie.close (tie.spec add-n cast-n add-t5 (λ c. search needs) returns)

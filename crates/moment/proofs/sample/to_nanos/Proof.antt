@@ -8,21 +8,6 @@ use borrow.Author.Needs.{needs}
 use Rattle.moment.proofs.sample.to_nanos.Statement.{statement}
 use Rattle.moment.proofs.sample.to_nanos.Tie as tie
 
-sub-n : tie.Need-sub-n
-sub-n c = search needs
-
-mul-n : tie.Need-mul-n
-mul-n c = search needs
-
-cast-n : tie.Need-cast-n
-cast-n c = search needs
-
-add-n : tie.Need-add-n
-add-n c = search needs
-
-cast-result : tie.Need-cast-result
-cast-result c = search needs
-
 sub-result : tie.Need-sub-result
 sub-result c =
     let m = c .before .before .args .m in
@@ -33,4 +18,4 @@ returns : tie.Need-returns
 returns c = read-since (c .before .before .args .m) (c .before .before .pre)
 
 pub to-nanos-spec : {M : Type 1} → statement M
-to-nanos-spec = tie.close (tie.spec sub-n mul-n cast-n add-n cast-result sub-result returns)
+to-nanos-spec = tie.close (tie.spec (λ c. search needs) (λ c. search needs) (λ c. search needs) (λ c. search needs) (λ c. search needs) sub-result returns)

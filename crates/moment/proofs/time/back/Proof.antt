@@ -13,9 +13,6 @@ unfolding ofInt
 ofInt-neg zero h = absurd (h refl)
 ofInt-neg (suc m) h = neg-round binary64 false (suc m) 1
 
-nearest-u64-to-f64-requires : tie.Need-nearest-u64-to-f64-requires
-nearest-u64-to-f64-requires c κs = search needs
-
 returns : tie.Need-returns
 returns c = simp (c .if1 .taken) (unfold ofBits ofInt round in refl)
 
@@ -23,4 +20,4 @@ returns-2 : tie.Need-returns-2
 returns-2 c = simp (c .nearest-u64-to-f64 .ensures, ofInt-neg _ (c .before .if1 .left))
 
 pub back-spec : {M : Type 1} → statement M
-back-spec = tie.close (tie.spec nearest-u64-to-f64-requires returns returns-2)
+back-spec = tie.close (tie.spec (λ c κs. search needs) returns returns-2)

@@ -21,12 +21,6 @@ returns : tie.Need-returns Inv-loop μ-loop
 unfolding distanceOf
 returns c = rw (eq-eqb _ _ (c .if1 .taken))
 
-nearest-u64-to-f64-requires : tie.Need-nearest-u64-to-f64-requires Inv-loop μ-loop
-nearest-u64-to-f64-requires c κs = search needs
-
-gap-of-requires : tie.Need-gap-of-requires Inv-loop μ-loop
-gap-of-requires c κs = search needs
-
 loop-holds : tie.Need-loop-holds Inv-loop μ-loop
 loop-holds c = (rw (c .gap-of .ensures) (gap-pos _ _ (c .before .before .if1 .left)), record { gives = rw (c .gap-of .ensures, c .before .nearest-u64-to-f64 .ensures, one-bits) })
 
@@ -53,8 +47,8 @@ distance-value-spec =
     Inv-loop
     μ-loop
     returns
-    nearest-u64-to-f64-requires
-    gap-of-requires
+    (λ c κs. search needs)
+    (λ c κs. search needs)
     loop-holds
     rem-loop
     div-diff

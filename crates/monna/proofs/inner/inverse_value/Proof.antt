@@ -15,20 +15,8 @@ Inv-loop x p precision q rest₀ val₀ factor₀ i₀ rest val factor i = (i �
 abbrev μ-loop : tie.MeasureT-loop
 μ-loop x p precision q rest₀ val₀ factor₀ i₀ rest val factor i = precision - i
 
-nearest-u64-to-f64-requires : tie.Need-nearest-u64-to-f64-requires Inv-loop μ-loop
-nearest-u64-to-f64-requires c κs = search needs
-
-clamp-requires : tie.Need-clamp-requires Inv-loop μ-loop
-clamp-requires c κs = search needs
-
 loop-holds : tie.Need-loop-holds Inv-loop μ-loop
 loop-holds c = (omega arith, sym (pow-zero _), omega arith, take-start _ _ (c .before .before .args .x) (c .clamp .ensures))
-
-floor-requires : tie.Need-floor-requires Inv-loop μ-loop
-floor-requires c κs = search needs
-
-saturating-f64-to-u64-requires : tie.Need-saturating-f64-to-u64-requires Inv-loop μ-loop
-saturating-f64-to-u64-requires c κs = search needs
 
 rem-val : tie.Need-rem-val Inv-loop μ-loop
 rem-val c = omega (arith, c .before .before .before .before .before .before .pre .0 .least)
@@ -38,9 +26,6 @@ mul-val c = record { fits = omega (arith, digit-bound _ _ (c .saturating-f64-to-
 
 add-val : tie.Need-add-val Inv-loop μ-loop
 add-val c = record { fits = omega (arith, digit-bound _ _ (c .saturating-f64-to-u64 .result) _ (c .before .before .before .before .before .before .pre .0) (omega arith) (c .before .before .before .loop .inv .1)) }
-
-nearest-u64-to-f64-requires-2 : tie.Need-nearest-u64-to-f64-requires-2 Inv-loop μ-loop
-nearest-u64-to-f64-requires-2 c κs = search needs
 
 mul-factor : tie.Need-mul-factor Inv-loop μ-loop
 mul-factor c = record { fits = omega (arith, factor-bound _ _ _ (c .before .before .before .before .before .before .before .pre .0) (omega arith) (c .before .before .before .before .loop .inv .1)) }
@@ -70,15 +55,15 @@ inverse-value-spec =
     (tie.spec
     Inv-loop
     μ-loop
-    nearest-u64-to-f64-requires
-    clamp-requires
+    (λ c κs. search needs)
+    (λ c κs. search needs)
     loop-holds
-    floor-requires
-    saturating-f64-to-u64-requires
+    (λ c κs. search needs)
+    (λ c κs. search needs)
     rem-val
     mul-val
     add-val
-    nearest-u64-to-f64-requires-2
+    (λ c κs. search needs)
     mul-factor
     add-i
     loop-less

@@ -14,18 +14,12 @@ Inv-loop val p q val₀ res₀ base₀ val' res base = Placing p val' base res (
 abbrev μ-loop : tie.MeasureT-loop
 μ-loop val p q val₀ res₀ base₀ val' res base = val'
 
-nearest-u64-to-f64-requires : tie.Need-nearest-u64-to-f64-requires Inv-loop μ-loop
-nearest-u64-to-f64-requires c κs = search needs
-
 loop-holds : tie.Need-loop-holds Inv-loop μ-loop
 unfolding monnaOf
 loop-holds c = record { gives = simp (c .nearest-u64-to-f64 .ensures, one-bits) }
 
 rem-nearest-u64-to-f64 : tie.Need-rem-nearest-u64-to-f64 Inv-loop μ-loop
 rem-nearest-u64-to-f64 c = omega (arith, c .before .before .before .pre .least)
-
-nearest-u64-to-f64-requires-2 : tie.Need-nearest-u64-to-f64-requires-2 Inv-loop μ-loop
-nearest-u64-to-f64-requires-2 c κs = search needs
 
 div-val : tie.Need-div-val Inv-loop μ-loop
 div-val c = omega (arith, c .before .before .before .before .pre .least)
@@ -45,10 +39,10 @@ monna-value-spec =
     (tie.spec
     Inv-loop
     μ-loop
-    nearest-u64-to-f64-requires
+    (λ c κs. search needs)
     loop-holds
     rem-nearest-u64-to-f64
-    nearest-u64-to-f64-requires-2
+    (λ c κs. search needs)
     div-val
     loop-less
     loop-again

@@ -4,18 +4,6 @@ use borrow.Author.Needs.{needs}
 use Rattle.monna.proofs.inner.normalized.Statement.{statement}
 use Rattle.monna.proofs.inner.normalized.Tie as tie
 
-abs-requires : tie.Need-abs-requires
-abs-requires c κs = search needs
-
-min-requires : tie.Need-min-requires
-min-requires c κs = search needs
-
-inverse-value-requires : tie.Need-inverse-value-requires
-inverse-value-requires c κs = search needs
-
-monna-value-requires : tie.Need-monna-value-requires
-monna-value-requires c κs = search needs
-
 returns : tie.Need-returns
 unfolding normalizedAt
 returns c = simp (c .monna-value .ensures, c .before .inverse-value .ensures, c .before .before .min .ensures, c .before .before .before .abs .ensures, range-bits, highest-bits)
@@ -23,4 +11,4 @@ returns c = simp (c .monna-value .ensures, c .before .inverse-value .ensures, c 
 pub normalized-spec : {M : Type 1} → statement M
 normalized-spec =
     tie.close
-    (tie.spec abs-requires min-requires inverse-value-requires monna-value-requires returns)
+    (tie.spec (λ c κs. search needs) (λ c κs. search needs) (λ c κs. search needs) (λ c κs. search needs) returns)

@@ -4,12 +4,6 @@ use borrow.Author.Needs.{needs}
 use Rattle.monna.proofs.inner.quotient.Statement.{statement}
 use Rattle.monna.proofs.inner.quotient.Tie as tie
 
-distance-value-requires : tie.Need-distance-value-requires
-distance-value-requires c κs = search needs
-
-sqrt-requires : tie.Need-sqrt-requires
-sqrt-requires c κs = search needs
-
 returns : tie.Need-returns
 unfolding quotientOf
 returns c = simp (← leastDistance-bits, ← c .before .before .distance-value .ensures, c .before .if1 .taken, c .sqrt .ensures)
@@ -19,4 +13,4 @@ unfolding quotientOf
 returns-2 c = simp (← leastDistance-bits, ← c .before .distance-value .ensures, c .if1 .left)
 
 pub quotient-spec : {M : Type 1} → statement M
-quotient-spec = tie.close (tie.spec distance-value-requires sqrt-requires returns returns-2)
+quotient-spec = tie.close (tie.spec (λ c κs. search needs) (λ c κs. search needs) returns returns-2)

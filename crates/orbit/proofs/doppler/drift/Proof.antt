@@ -4,12 +4,9 @@ use borrow.Author.Needs.{needs}
 use Rattle.orbit.proofs.doppler.drift.Statement.{statement}
 use Rattle.orbit.proofs.doppler.drift.Tie as tie
 
-dot-requires : tie.Need-dot-requires
-dot-requires c κs = search needs
-
 returns : tie.Need-returns
 unfolding driftOf ofBits round
 returns c = simp (c .dot .ensures)
 
 pub drift-spec : {M : Type 1} → statement M
-drift-spec = tie.close (tie.spec dot-requires returns)
+drift-spec = tie.close (tie.spec (λ c κs. search needs) returns)

@@ -4,15 +4,9 @@ use borrow.Author.Needs.{needs}
 use Rattle.orbit.proofs.doppler.potential.Statement.{statement}
 use Rattle.orbit.proofs.doppler.potential.Tie as tie
 
-dot-requires : tie.Need-dot-requires
-dot-requires c κs = search needs
-
-sqrt-requires : tie.Need-sqrt-requires
-sqrt-requires c κs = search needs
-
 returns : tie.Need-returns
 unfolding potentialOf ofBits round
 returns c = simp (c .sqrt .ensures, c .before .dot .ensures)
 
 pub potential-spec : {M : Type 1} → statement M
-potential-spec = tie.close (tie.spec dot-requires sqrt-requires returns)
+potential-spec = tie.close (tie.spec (λ c κs. search needs) (λ c κs. search needs) returns)

@@ -5,12 +5,6 @@ use borrow.Author.Needs.{needs}
 use Rattle.orbit.proofs.doppler.predict.Statement.{statement}
 use Rattle.orbit.proofs.doppler.predict.Tie as tie
 
-moved-micros-requires : tie.Need-moved-micros-requires
-moved-micros-requires c κs = search needs
-
-over-requires : tie.Need-over-requires
-over-requires c κs = search needs
-
 returns : tie.Need-returns
 returns c =
     first-over _ _ _ _ _ _ _ _ _ _ _ _ _ (adjusted _ _ _ (c .before .before .moved-micros .ensures .counts)) (c .before .over .ensures) (c .if1 .taken)
@@ -18,17 +12,8 @@ returns c =
 tau-requires : tie.Need-tau-requires
 tau-requires c κs = (sound _ _ (c .before .before .moved-micros .ensures .part) (sym (c .before .over .ensures) ∙ c .if1 .left), c .before .before .before .pre .0)
 
-propagate-requires : tie.Need-propagate-requires
-propagate-requires c κs = search needs
-
-drift-requires : tie.Need-drift-requires
-drift-requires c κs = search needs
-
 moved-nanos-requires : tie.Need-moved-nanos-requires
 moved-nanos-requires c κs = let i = c .before .before .before in sound _ _ (i .before .before .moved-micros .ensures .part) (sym (i .before .over .ensures) ∙ i .if1 .left)
-
-over-requires-2 : tie.Need-over-requires-2
-over-requires-2 c κs = search needs
 
 returns-2 : tie.Need-returns-2
 returns-2 c =
@@ -39,12 +24,6 @@ returns-2 c =
 
 tau-requires-2 : tie.Need-tau-requires-2
 tau-requires-2 c κs = (sound _ _ (c .before .before .moved-nanos .ensures .part) (sym (c .before .over2 .ensures) ∙ c .if2 .left), c .before .before .before .before .before .before .before .before .before .pre .0)
-
-propagate-requires-2 : tie.Need-propagate-requires-2
-propagate-requires-2 c κs = search needs
-
-received-requires : tie.Need-received-requires
-received-requires c κs = search needs
 
 returns-3 : tie.Need-returns-3
 returns-3 c =
@@ -59,16 +38,16 @@ pub predict-spec : {M : Type 1} → statement M
 predict-spec =
     tie.close
     (tie.spec
-    moved-micros-requires
-    over-requires
+    (λ c κs. search needs)
+    (λ c κs. search needs)
     returns
     tau-requires
-    propagate-requires
-    drift-requires
+    (λ c κs. search needs)
+    (λ c κs. search needs)
     moved-nanos-requires
-    over-requires-2
+    (λ c κs. search needs)
     returns-2
     tau-requires-2
-    propagate-requires-2
-    received-requires
+    (λ c κs. search needs)
+    (λ c κs. search needs)
     returns-3)

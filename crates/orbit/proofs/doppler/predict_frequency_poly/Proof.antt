@@ -7,43 +7,16 @@ use borrow.Author.Needs.{needs}
 use Rattle.orbit.proofs.doppler.predict_frequency_poly.Statement.{statement}
 use Rattle.orbit.proofs.doppler.predict_frequency_poly.Tie as tie
 
-instant-of-requires : tie.Need-instant-of-requires
-instant-of-requires c κs = search needs
-
-enum-known-from : tie.Need-enum-known-from
-enum-known-from c = search needs
-
-enum-told : tie.Need-enum-told
-enum-told c = search needs
-
 returns : tie.Need-returns
 returns c =
     let a = c .before .before .before .args in
     poly-epoch-out (a .a) (a .i) (a .raan0) (a .u0) (a .epoch) (a .t-obs) (a .dt) (a .df-poly) (a .t-ref) (a .center-freq) (a .rec-ecef) (sym (c .enum-told .given .1) ∙ c .before .before .instant-of .ensures)
-
-instant-of-requires-2 : tie.Need-instant-of-requires-2
-instant-of-requires-2 c κs = search needs
-
-enum-known-t : tie.Need-enum-known-t
-enum-known-t c = search needs
-
-enum-told-2 : tie.Need-enum-told-2
-enum-told-2 c = search needs
 
 returns-2 : tie.Need-returns-2
 returns-2 c =
     let f = c .before .before .before .before in
     let a = f .before .before .before .args in
     poly-t-out (a .a) (a .i) (a .raan0) (a .u0) (a .epoch) (a .t-obs) (a .dt) (a .df-poly) (a .t-ref) (a .center-freq) (a .rec-ecef) _ (sym (f .from .given .1) ∙ f .before .before .instant-of .ensures) (sym (c .enum-told2 .given .1) ∙ c .before .before .instant-of2 .ensures)
-
-instant-of-requires-3 : tie.Need-instant-of-requires-3
-instant-of-requires-3 c κs = search needs
-
-enum-known-since : tie.Need-enum-known-since
-enum-known-since c = search needs
-
-enum-told-3 : tie.Need-enum-told-3
-enum-told-3 c = search needs
 
 returns-3 : tie.Need-returns-3
 returns-3 c =
@@ -59,9 +32,6 @@ tau-millis-requires c κs =
       within-sound 0 _ _ (lit≤ tt) (at-is _ _ _ (sym (s .t .given .1) ∙ s .before .before .instant-of2 .ensures) .accepted),
       within-sound 0 _ _ (lit≤ tt) (at-is _ _ _ (sym (r .since .given .1) ∙ r .before .before .instant-of3 .ensures) .accepted),
     )
-
-bias-at-requires : tie.Need-bias-at-requires
-bias-at-requires c κs = search needs
 
 predict-at-requires : tie.Need-predict-at-requires
 predict-at-requires c κs =
@@ -83,19 +53,19 @@ pub predict-frequency-poly-spec : {M : Type 1} → statement M
 predict-frequency-poly-spec =
     tie.close
     (tie.spec
-    instant-of-requires
-    enum-known-from
-    enum-told
+    (λ c κs. search needs)
+    (λ c. search needs)
+    (λ c. search needs)
     returns
-    instant-of-requires-2
-    enum-known-t
-    enum-told-2
+    (λ c κs. search needs)
+    (λ c. search needs)
+    (λ c. search needs)
     returns-2
-    instant-of-requires-3
-    enum-known-since
-    enum-told-3
+    (λ c κs. search needs)
+    (λ c. search needs)
+    (λ c. search needs)
     returns-3
     tau-millis-requires
-    bias-at-requires
+    (λ c κs. search needs)
     predict-at-requires
     returns-4)

@@ -5,21 +5,6 @@ use borrow.Author.Needs.{needs}
 use Rattle.passes.proofs.line.entry.Statement.{statement}
 use Rattle.passes.proofs.line.entry.Tie as tie
 
-trim-requires : tie.Need-trim-requires
-trim-requires c κs = search needs
-
-sub-named : tie.Need-sub-named
-sub-named c = search needs
-
-part-named-start : tie.Need-part-named-start
-part-named-start c = search needs
-
-part-named-end : tie.Need-part-named-end
-part-named-end c = search needs
-
-named-requires : tie.Need-named-requires
-named-requires c κs = search needs
-
 returns : tie.Need-returns
 returns c =
     let a = c .before .before .before .before .before .args in
@@ -29,9 +14,9 @@ pub entry-spec : {M : Type 1} → statement M
 entry-spec =
     tie.close
     (tie.spec
-    trim-requires
-    sub-named
-    part-named-start
-    part-named-end
-    named-requires
+    (λ c κs. search needs)
+    (λ c. search needs)
+    (λ c. search needs)
+    (λ c. search needs)
+    (λ c κs. search needs)
     returns)

@@ -11,36 +11,12 @@ use borrow.Author.Needs.{needs}
 use Rattle.passes.proofs.line.header.Statement.{statement}
 use Rattle.passes.proofs.line.header.Tie as tie
 
-until-requires : tie.Need-until-requires
-until-requires c κs = search needs
-
 returns : tie.Need-returns
 unfolding Spec.header
 returns c = simp (eq-eqb _ _ (sym (c .before .until .ensures .is) ∙ c .if1 .taken))
 
 slice-aggregate-entry : tie.Need-slice-aggregate-entry
 slice-aggregate-entry c = sym (length-take-le _ _ (c .before .before .until .ensures .inside))
-
-add-entry : tie.Need-add-entry
-add-entry c = search needs
-
-add-entry-2 : tie.Need-add-entry-2
-add-entry-2 c = search needs
-
-add-entry-3 : tie.Need-add-entry-3
-add-entry-3 c = search needs
-
-sub-entry : tie.Need-sub-entry
-sub-entry c = search needs
-
-part-entry-start : tie.Need-part-entry-start
-part-entry-start c = search needs
-
-part-entry-end : tie.Need-part-entry-end
-part-entry-end c = search needs
-
-entry-requires : tie.Need-entry-requires
-entry-requires c κs = search needs
 
 returns-2 : tie.Need-returns-2
 unfolding Spec.header
@@ -57,14 +33,14 @@ pub header-spec : {M : Type 1} → statement M
 header-spec =
     tie.close
     (tie.spec
-    until-requires
+    (λ c κs. search needs)
     returns
     slice-aggregate-entry
-    add-entry
-    add-entry-2
-    add-entry-3
-    sub-entry
-    part-entry-start
-    part-entry-end
-    entry-requires
+    (λ c. search needs)
+    (λ c. search needs)
+    (λ c. search needs)
+    (λ c. search needs)
+    (λ c. search needs)
+    (λ c. search needs)
+    (λ c κs. search needs)
     returns-2)

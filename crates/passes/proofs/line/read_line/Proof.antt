@@ -6,9 +6,6 @@ use borrow.Author.Needs.{needs}
 use Rattle.passes.proofs.line.read_line.Statement.{statement}
 use Rattle.passes.proofs.line.read_line.Tie as tie
 
-ascii-requires : tie.Need-ascii-requires
-ascii-requires c κs = search needs
-
 returns : tie.Need-returns
 unfolding Spec.lineOf
 returns c = simp (sym (c .before .ascii .ensures) ∙ not-true _ (c .if1 .taken))
@@ -16,21 +13,6 @@ returns c = simp (sym (c .before .ascii .ensures) ∙ not-true _ (c .if1 .taken)
 returns-2 : tie.Need-returns-2
 unfolding Spec.lineOf
 returns-2 c = simp (sym (c .before .before .ascii .ensures) ∙ not-false _ (c .before .if1 .left), lt-ltb _ _ (c .if2 .taken))
-
-trim-requires : tie.Need-trim-requires
-trim-requires c κs = search needs
-
-sub-trimmed : tie.Need-sub-trimmed
-sub-trimmed c = search needs
-
-part-trimmed-start : tie.Need-part-trimmed-start
-part-trimmed-start c = search needs
-
-part-trimmed-end : tie.Need-part-trimmed-end
-part-trimmed-end c = search needs
-
-trimmed-requires : tie.Need-trimmed-requires
-trimmed-requires c κs = search needs
 
 returns-3 : tie.Need-returns-3
 unfolding Spec.lineOf
@@ -44,12 +26,12 @@ pub read-line-spec : {M : Type 1} → statement M
 read-line-spec =
     tie.close
     (tie.spec
-    ascii-requires
+    (λ c κs. search needs)
     returns
     returns-2
-    trim-requires
-    sub-trimmed
-    part-trimmed-start
-    part-trimmed-end
-    trimmed-requires
+    (λ c κs. search needs)
+    (λ c. search needs)
+    (λ c. search needs)
+    (λ c. search needs)
+    (λ c κs. search needs)
     returns-3)

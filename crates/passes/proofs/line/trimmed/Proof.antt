@@ -12,32 +12,11 @@ returns : tie.Need-returns
 unfolding Spec.trimmedLine
 returns c = simp (eq-eqb _ _ (c .if1 .taken))
 
-shared-slice-read-if2 : tie.Need-shared-slice-read-if2
-shared-slice-read-if2 c = search needs
-
-sub-header : tie.Need-sub-header
-sub-header c = search needs
-
-part-header-start : tie.Need-part-header-start
-part-header-start c = search needs
-
-part-header-end : tie.Need-part-header-end
-part-header-end c = search needs
-
-add-header : tie.Need-add-header
-add-header c = search needs
-
-header-requires : tie.Need-header-requires
-header-requires c κs = search needs
-
 returns-2 : tie.Need-returns-2
 unfolding Spec.trimmedLine
 returns-2 c =
     let a = c .before .before .before .before .before .before .args in
     c .header .ensures ∙ ap (Spec.header (a .s + 1)) (rest (a .t .now) 1) ∙ simp (ne-eqb _ _ (c .before .before .before .before .if1 .left), eq-eqb _ _ (c .before .before .if2 .taken))
-
-sample-requires : tie.Need-sample-requires
-sample-requires c κs = search needs
 
 returns-3 : tie.Need-returns-3
 unfolding Spec.trimmedLine
@@ -48,12 +27,12 @@ trimmed-spec =
     tie.close
     (tie.spec
     returns
-    shared-slice-read-if2
-    sub-header
-    part-header-start
-    part-header-end
-    add-header
-    header-requires
+    (λ c. search needs)
+    (λ c. search needs)
+    (λ c. search needs)
+    (λ c. search needs)
+    (λ c. search needs)
+    (λ c κs. search needs)
     returns-2
-    sample-requires
+    (λ c κs. search needs)
     returns-3)

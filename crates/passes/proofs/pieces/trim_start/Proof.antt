@@ -22,9 +22,6 @@ loop-holds c = (omega arith, omega arith)
 shared-slice-read-blank : tie.Need-shared-slice-read-blank Inv-loop μ-loop
 shared-slice-read-blank c = omega arith
 
-blank-requires : tie.Need-blank-requires Inv-loop μ-loop
-blank-requires c κs = search needs
-
 returns : tie.Need-returns Inv-loop μ-loop
 returns c = let l = c .before .before .before .before in record { inside = omega arith; is = omega (arith, blanks-here (l .before .before .args .l .now) (l .loop .i) (omega arith) (sym (c .before .blank .ensures) ∙ not-true _ (c .if1 .taken)), l .loop .inv .1) }
 
@@ -48,7 +45,7 @@ trim-start-spec =
     μ-loop
     loop-holds
     shared-slice-read-blank
-    blank-requires
+    (λ c κs. search needs)
     returns
     add-i
     loop-less

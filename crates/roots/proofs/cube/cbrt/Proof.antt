@@ -23,12 +23,6 @@ split-requires : tie.Need-split-requires
 unfolding ofBits
 split-requires c κs = let s = c .before .before in (bits-pos (s .args .x) (held s) (c .before .if1 .taken), c .if2 .left)
 
-add-cube-root-bits : tie.Need-add-cube-root-bits
-add-cube-root-bits c = search needs
-
-cube-root-bits-requires : tie.Need-cube-root-bits-requires
-cube-root-bits-requires c κs = search needs
-
 float-from-bits-result : tie.Need-float-from-bits-result
 float-from-bits-result c = no-nan (c .cube-root-bits .result) (c .cube-root-bits .ensures .1)
 
@@ -58,8 +52,8 @@ cbrt-spec =
     float-to-bits-b
     returns
     split-requires
-    add-cube-root-bits
-    cube-root-bits-requires
+    (λ c. search needs)
+    (λ c κs. search needs)
     float-from-bits-result
     returns-2
     returns-3

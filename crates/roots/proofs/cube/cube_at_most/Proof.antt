@@ -49,23 +49,14 @@ upper-small c = high-small (square-small (c .before .before .before .pre .0) (c 
 lower-small : (c : At) → c .product3 .result .high < 1152921504606846976
 lower-small c = high-small (omega (arith, c .before .before .product .ensures .small)) (omega arith) (c .product3 .ensures)
 
-product-requires : tie.Need-product-requires
-product-requires c κs = search needs
-
 product-requires-2 : tie.Need-product-requires-2
 product-requires-2 c κs = (square-small (c .before .pre .0) (c .product .ensures), omega arith)
-
-product-requires-3 : tie.Need-product-requires-3
-product-requires-3 c κs = search needs
 
 add-middle : tie.Need-add-middle
 add-middle c = omega (arith, lower-small (c .before .before), c .before .before .before .product2 .ensures .small)
 
 add-high : tie.Need-add-high
 add-high c = omega (arith, upper-small (at c), lower-small (at c), at c .before .product2 .ensures .small)
-
-mul-half : tie.Need-mul-half
-mul-half c = search needs
 
 returns : tie.Need-returns
 returns c = let a = at (c .before) in sym (less-1 (high a) (mid a) (low a) (m a / 2) (half a) (mid-lt a) (a .product3 .ensures .small) (half-lt a) (c .if1 .taken)) ∙ compared a
@@ -89,12 +80,12 @@ pub cube-at-most-spec : {M : Type 1} → statement M
 cube-at-most-spec =
     tie.close
     (tie.spec
-    product-requires
+    (λ c κs. search needs)
     product-requires-2
-    product-requires-3
+    (λ c κs. search needs)
     add-middle
     add-high
-    mul-half
+    (λ c. search needs)
     returns
     returns-2
     returns-3

@@ -14,12 +14,6 @@ small m h = (omega arith, omega arith, omega arith)
 large : (m : ℕ) → 4503599627370496 ≤ m → (4503599627370496 ≤ m * 2) × (4503599627370496 ≤ m * 4)
 large m h = (omega arith, omega arith)
 
-mul-result : tie.Need-mul-result
-mul-result c = search needs
-
-nearest-cube-root-requires : tie.Need-nearest-cube-root-requires
-nearest-cube-root-requires c κs = search needs
-
 returns : tie.Need-returns
 returns c =
     let s = c .before .before in
@@ -28,15 +22,6 @@ returns c =
 add-result : tie.Need-add-result
 add-result c = omega (arith, returns c .1)
 
-mul-result-2 : tie.Need-mul-result-2
-mul-result-2 c = search needs
-
-mul-nearest-cube-root : tie.Need-mul-nearest-cube-root
-mul-nearest-cube-root c = search needs
-
-nearest-cube-root-requires-2 : tie.Need-nearest-cube-root-requires-2
-nearest-cube-root-requires-2 c κs = search needs
-
 returns-2 : tie.Need-returns-2
 returns-2 c =
     let s = c .before .before .before in
@@ -44,15 +29,6 @@ returns-2 c =
 
 add-result-2 : tie.Need-add-result-2
 add-result-2 c = omega (arith, returns-2 c .1)
-
-mul-result-3 : tie.Need-mul-result-3
-mul-result-3 c = search needs
-
-mul-nearest-cube-root-2 : tie.Need-mul-nearest-cube-root-2
-mul-nearest-cube-root-2 c = search needs
-
-nearest-cube-root-requires-3 : tie.Need-nearest-cube-root-requires-3
-nearest-cube-root-requires-3 c κs = search needs
 
 two : (g : ℕ) → (g % 3 ≡ 0 → ⊥) → (g % 3 ≡ 1 → ⊥) → g % 3 ≡ 2
 two g h k = omega arith
@@ -69,17 +45,17 @@ pub cube-root-bits-spec : {M : Type 1} → statement M
 cube-root-bits-spec =
     tie.close
     (tie.spec
-    mul-result
-    nearest-cube-root-requires
+    (λ c. search needs)
+    (λ c κs. search needs)
     add-result
     returns
-    mul-result-2
-    mul-nearest-cube-root
-    nearest-cube-root-requires-2
+    (λ c. search needs)
+    (λ c. search needs)
+    (λ c κs. search needs)
     add-result-2
     returns-2
-    mul-result-3
-    mul-nearest-cube-root-2
-    nearest-cube-root-requires-3
+    (λ c. search needs)
+    (λ c. search needs)
+    (λ c κs. search needs)
     add-result-3
     returns-3)

@@ -19,29 +19,8 @@ abbrev μ-loop : tie.MeasureT-loop
 loop-holds : tie.Need-loop-holds Inv-loop μ-loop
 loop-holds c = testing-none (c .before .args .b .now) (c .before .args .at) (c .before .args .n)
 
-mul-double-at : tie.Need-mul-double-at Inv-loop μ-loop
-mul-double-at c = search needs
-
-add-double-at : tie.Need-add-double-at Inv-loop μ-loop
-add-double-at c = search needs
-
-double-at-requires : tie.Need-double-at-requires Inv-loop μ-loop
-double-at-requires c κs = search needs
-
-time-of-requires : tie.Need-time-of-requires Inv-loop μ-loop
-time-of-requires c κs = search needs
-
-in-range-requires : tie.Need-in-range-requires Inv-loop μ-loop
-in-range-requires c κs = search needs
-
 returns : tie.Need-returns Inv-loop μ-loop
 returns c = testing-fails (c .before .before .before .before .before .loop .inv) (c .before .before .before .before .loop-test .taken) (c .before .in-range .ensures ∙ ap timeInRange (kept (c .before .before .before .double-at .result) (c .before .before .before .double-at .ensures .most) (c .before .before .time-of .ensures) ∙ ap timeOf (c .before .before .before .double-at .ensures .is))) (not-true _ (c .if1 .taken))
-
-add-k : tie.Need-add-k Inv-loop μ-loop
-add-k c = search needs
-
-loop-less : tie.Need-loop-less Inv-loop μ-loop
-loop-less c = search needs
 
 loop-again : tie.Need-loop-again Inv-loop μ-loop
 loop-again c = testing-more (c .before .before .before .before .before .loop .inv) (c .before .before .before .before .loop-test .taken) (c .before .in-range .ensures ∙ ap timeInRange (kept (c .before .before .before .double-at .result) (c .before .before .before .double-at .ensures .most) (c .before .before .time-of .ensures) ∙ ap timeOf (c .before .before .before .double-at .ensures .is))) (not-false _ (c .if1 .left))
@@ -56,13 +35,13 @@ in-range-at-spec =
     Inv-loop
     μ-loop
     loop-holds
-    mul-double-at
-    add-double-at
-    double-at-requires
-    time-of-requires
-    in-range-requires
+    (λ c. search needs)
+    (λ c. search needs)
+    (λ c κs. search needs)
+    (λ c κs. search needs)
+    (λ c κs. search needs)
     returns
-    add-k
-    loop-less
+    (λ c. search needs)
+    (λ c. search needs)
     loop-again
     returns-2)

@@ -15,29 +15,8 @@ abbrev μ-loop : tie.MeasureT-loop
 loop-holds : tie.Need-loop-holds Inv-loop μ-loop
 loop-holds c = let a = c .before .before .args in taking-none 4 (λ v. v) (a .b .now) (a .at) (a .n) (a .counts .now)
 
-mul-word-at : tie.Need-mul-word-at Inv-loop μ-loop
-mul-word-at c = search needs
-
-add-word-at : tie.Need-add-word-at Inv-loop μ-loop
-add-word-at c = search needs
-
-word-at-requires : tie.Need-word-at-requires Inv-loop μ-loop
-word-at-requires c κs = search needs
-
 cast-counts : tie.Need-cast-counts Inv-loop μ-loop
 cast-counts c = omega (arith, c .word-at .ensures .most)
-
-mul-counts : tie.Need-mul-counts Inv-loop μ-loop
-mul-counts c = search needs
-
-slice-write-counts : tie.Need-slice-write-counts Inv-loop μ-loop
-slice-write-counts c = search needs
-
-add-k : tie.Need-add-k Inv-loop μ-loop
-add-k c = search needs
-
-loop-less : tie.Need-loop-less Inv-loop μ-loop
-loop-less c = search needs
 
 loop-again : tie.Need-loop-again Inv-loop μ-loop
 loop-again c = taking-more (c .before .before .loop .inv) (c .before .loop-test .taken) (c .word-at .ensures .is)
@@ -55,14 +34,14 @@ load-counts-spec =
     Inv-loop
     μ-loop
     loop-holds
-    mul-word-at
-    add-word-at
-    word-at-requires
+    (λ c. search needs)
+    (λ c. search needs)
+    (λ c κs. search needs)
     cast-counts
-    mul-counts
-    slice-write-counts
-    add-k
-    loop-less
+    (λ c. search needs)
+    (λ c. search needs)
+    (λ c. search needs)
+    (λ c. search needs)
     loop-again
     same-length
     returns)

@@ -16,30 +16,6 @@ abbrev μ-loop : tie.MeasureT-loop
 loop-holds : tie.Need-loop-holds Inv-loop μ-loop
 loop-holds c = let a = c .before .before .args in taking-none 8 (ofBits binary64) (a .b .now) (a .at) (a .n) (a .freqs .now)
 
-mul-double-at : tie.Need-mul-double-at Inv-loop μ-loop
-mul-double-at c = search needs
-
-add-double-at : tie.Need-add-double-at Inv-loop μ-loop
-add-double-at c = search needs
-
-double-at-requires : tie.Need-double-at-requires Inv-loop μ-loop
-double-at-requires c κs = search needs
-
-freq-of-requires : tie.Need-freq-of-requires Inv-loop μ-loop
-freq-of-requires c κs = search needs
-
-mul-freqs : tie.Need-mul-freqs Inv-loop μ-loop
-mul-freqs c = search needs
-
-slice-write-freqs : tie.Need-slice-write-freqs Inv-loop μ-loop
-slice-write-freqs c = search needs
-
-add-k : tie.Need-add-k Inv-loop μ-loop
-add-k c = search needs
-
-loop-less : tie.Need-loop-less Inv-loop μ-loop
-loop-less c = search needs
-
 loop-again : tie.Need-loop-again Inv-loop μ-loop
 loop-again c = taking-more (c .before .before .before .loop .inv) (c .before .before .loop-test .taken) (c .freq-of .ensures ∙ ap (ofBits binary64) (c .before .double-at .ensures .is))
 
@@ -56,14 +32,14 @@ load-freqs-spec =
     Inv-loop
     μ-loop
     loop-holds
-    mul-double-at
-    add-double-at
-    double-at-requires
-    freq-of-requires
-    mul-freqs
-    slice-write-freqs
-    add-k
-    loop-less
+    (λ c. search needs)
+    (λ c. search needs)
+    (λ c κs. search needs)
+    (λ c κs. search needs)
+    (λ c. search needs)
+    (λ c. search needs)
+    (λ c. search needs)
+    (λ c. search needs)
     loop-again
     same-length
     returns)

@@ -17,30 +17,6 @@ abbrev μ-loop : tie.MeasureT-loop
 loop-holds : tie.Need-loop-holds Inv-loop μ-loop
 loop-holds c = let a = c .before .args in taking-none 8 timeOf (a .b .now) (a .at) (a .n) (a .times .now)
 
-mul-double-at : tie.Need-mul-double-at Inv-loop μ-loop
-mul-double-at c = search needs
-
-add-double-at : tie.Need-add-double-at Inv-loop μ-loop
-add-double-at c = search needs
-
-double-at-requires : tie.Need-double-at-requires Inv-loop μ-loop
-double-at-requires c κs = search needs
-
-time-of-requires : tie.Need-time-of-requires Inv-loop μ-loop
-time-of-requires c κs = search needs
-
-mul-t11 : tie.Need-mul-t11 Inv-loop μ-loop
-mul-t11 c = search needs
-
-slice-set-from-times : tie.Need-slice-set-from-times Inv-loop μ-loop
-slice-set-from-times c = search needs
-
-add-k : tie.Need-add-k Inv-loop μ-loop
-add-k c = search needs
-
-loop-less : tie.Need-loop-less Inv-loop μ-loop
-loop-less c = search needs
-
 loop-again : tie.Need-loop-again Inv-loop μ-loop
 loop-again c =
     let d = c .before .double-at in
@@ -59,14 +35,14 @@ load-times-spec =
     Inv-loop
     μ-loop
     loop-holds
-    mul-double-at
-    add-double-at
-    double-at-requires
-    time-of-requires
-    mul-t11
-    slice-set-from-times
-    add-k
-    loop-less
+    (λ c. search needs)
+    (λ c. search needs)
+    (λ c κs. search needs)
+    (λ c κs. search needs)
+    (λ c. search needs)
+    (λ c. search needs)
+    (λ c. search needs)
+    (λ c. search needs)
     loop-again
     same-length
     returns)

@@ -17,29 +17,8 @@ abbrev μ-loop : tie.MeasureT-loop
 loop-holds : tie.Need-loop-holds Inv-loop μ-loop
 loop-holds c = let a = c .before .before .args in writing-none 4 (λ v. v) (a .counts .now) (a .at) (a .out .now)
 
-mul-put-word : tie.Need-mul-put-word Inv-loop μ-loop
-mul-put-word c = search needs
-
-add-put-word : tie.Need-add-put-word Inv-loop μ-loop
-add-put-word c = search needs
-
-mul-put-word-2 : tie.Need-mul-put-word-2 Inv-loop μ-loop
-mul-put-word-2 c = search needs
-
-shared-slice-read-put-word : tie.Need-shared-slice-read-put-word Inv-loop μ-loop
-shared-slice-read-put-word c = search needs
-
 cast-put-word : tie.Need-cast-put-word Inv-loop μ-loop
 cast-put-word c = omega (arith, c .shared-slice-known2 .given (c .before .before .before .loop .k))
-
-put-word-requires : tie.Need-put-word-requires Inv-loop μ-loop
-put-word-requires c κs = search needs
-
-add-k : tie.Need-add-k Inv-loop μ-loop
-add-k c = search needs
-
-loop-less : tie.Need-loop-less Inv-loop μ-loop
-loop-less c = search needs
 
 loop-again : tie.Need-loop-again Inv-loop μ-loop
 loop-again c =
@@ -59,14 +38,14 @@ store-counts-spec =
     Inv-loop
     μ-loop
     loop-holds
-    mul-put-word
-    add-put-word
-    mul-put-word-2
-    shared-slice-read-put-word
+    (λ c. search needs)
+    (λ c. search needs)
+    (λ c. search needs)
+    (λ c. search needs)
     cast-put-word
-    put-word-requires
-    add-k
-    loop-less
+    (λ c κs. search needs)
+    (λ c. search needs)
+    (λ c. search needs)
     loop-again
     same-length
     returns)

@@ -16,30 +16,6 @@ abbrev μ-loop : tie.MeasureT-loop
 loop-holds : tie.Need-loop-holds Inv-loop μ-loop
 loop-holds c = let a = c .before .before .args in writing-none 8 (toBits binary64) (a .freqs .now) (a .at) (a .out .now)
 
-mul-put-double : tie.Need-mul-put-double Inv-loop μ-loop
-mul-put-double c = search needs
-
-add-put-double : tie.Need-add-put-double Inv-loop μ-loop
-add-put-double c = search needs
-
-mul-freq-bits : tie.Need-mul-freq-bits Inv-loop μ-loop
-mul-freq-bits c = search needs
-
-shared-slice-read-freq-bits : tie.Need-shared-slice-read-freq-bits Inv-loop μ-loop
-shared-slice-read-freq-bits c = search needs
-
-freq-bits-requires : tie.Need-freq-bits-requires Inv-loop μ-loop
-freq-bits-requires c κs = search needs
-
-put-double-requires : tie.Need-put-double-requires Inv-loop μ-loop
-put-double-requires c κs = search needs
-
-add-k : tie.Need-add-k Inv-loop μ-loop
-add-k c = search needs
-
-loop-less : tie.Need-loop-less Inv-loop μ-loop
-loop-less c = search needs
-
 loop-again : tie.Need-loop-again Inv-loop μ-loop
 loop-again c =
     let i = c .before .before .before .before .before .before in
@@ -58,14 +34,14 @@ store-freqs-spec =
     Inv-loop
     μ-loop
     loop-holds
-    mul-put-double
-    add-put-double
-    mul-freq-bits
-    shared-slice-read-freq-bits
-    freq-bits-requires
-    put-double-requires
-    add-k
-    loop-less
+    (λ c. search needs)
+    (λ c. search needs)
+    (λ c. search needs)
+    (λ c. search needs)
+    (λ c κs. search needs)
+    (λ c κs. search needs)
+    (λ c. search needs)
+    (λ c. search needs)
     loop-again
     same-length
     returns)

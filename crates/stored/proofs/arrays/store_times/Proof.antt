@@ -19,30 +19,6 @@ abbrev μ-loop : tie.MeasureT-loop
 loop-holds : tie.Need-loop-holds Inv-loop μ-loop
 loop-holds c = let a = c .before .args in writing-none 8 timeBits (a .times .now) (a .at) (a .out .now)
 
-mul-put-double : tie.Need-mul-put-double Inv-loop μ-loop
-mul-put-double c = search needs
-
-add-put-double : tie.Need-add-put-double Inv-loop μ-loop
-add-put-double c = search needs
-
-mul-time-bits : tie.Need-mul-time-bits Inv-loop μ-loop
-mul-time-bits c = search needs
-
-shared-slice-copy-out-time-bits : tie.Need-shared-slice-copy-out-time-bits Inv-loop μ-loop
-shared-slice-copy-out-time-bits c = search needs
-
-time-bits-requires : tie.Need-time-bits-requires Inv-loop μ-loop
-time-bits-requires c κs = search needs
-
-put-double-requires : tie.Need-put-double-requires Inv-loop μ-loop
-put-double-requires c κs = search needs
-
-add-k : tie.Need-add-k Inv-loop μ-loop
-add-k c = search needs
-
-loop-less : tie.Need-loop-less Inv-loop μ-loop
-loop-less c = search needs
-
 loop-again : tie.Need-loop-again Inv-loop μ-loop
 loop-again c =
     let i = c .before .before .before .before .before .before in
@@ -63,14 +39,14 @@ store-times-spec =
     Inv-loop
     μ-loop
     loop-holds
-    mul-put-double
-    add-put-double
-    mul-time-bits
-    shared-slice-copy-out-time-bits
-    time-bits-requires
-    put-double-requires
-    add-k
-    loop-less
+    (λ c. search needs)
+    (λ c. search needs)
+    (λ c. search needs)
+    (λ c. search needs)
+    (λ c κs. search needs)
+    (λ c κs. search needs)
+    (λ c. search needs)
+    (λ c. search needs)
     loop-again
     same-length
     returns)

@@ -7,21 +7,6 @@ use borrow.Author.Needs.{needs}
 use Rattle.stored.proofs.number.double_at.Statement.{statement}
 use Rattle.stored.proofs.number.double_at.Tie as tie
 
-word-at-requires : tie.Need-word-at-requires
-word-at-requires c κs = search needs
-
-add-word-at : tie.Need-add-word-at
-add-word-at c = search needs
-
-word-at-requires-2 : tie.Need-word-at-requires-2
-word-at-requires-2 c κs = search needs
-
-mul-result : tie.Need-mul-result
-mul-result c = search needs
-
-add-result : tie.Need-add-result
-add-result c = search needs
-
 returns : tie.Need-returns
 returns c =
     let low = c .before .word-at .ensures in
@@ -35,4 +20,4 @@ returns c =
 pub double-at-spec : {M : Type 1} → statement M
 double-at-spec =
     tie.close
-    (tie.spec word-at-requires add-word-at word-at-requires-2 mul-result add-result returns)
+    (tie.spec (λ c κs. search needs) (λ c. search needs) (λ c κs. search needs) (λ c. search needs) (λ c. search needs) returns)

@@ -10,8 +10,5 @@ returns c = nan-bits (c .before .args .v) (c .if1 .taken)
 float-to-bits-result : tie.Need-float-to-bits-result
 float-to-bits-result c = not-nan (c .before .args .v) (c .if1 .left)
 
-returns-2 : tie.Need-returns-2
-returns-2 c = search needs
-
 pub freq-bits-spec : {M : Type 1} → statement M
-freq-bits-spec = tie.close (tie.spec returns float-to-bits-result returns-2)
+freq-bits-spec = tie.close (tie.spec returns float-to-bits-result (λ c. search needs))

@@ -9,18 +9,6 @@ use borrow.Author.Needs.{needs}
 use Rattle.stored.proofs.number.put_double.Statement.{statement}
 use Rattle.stored.proofs.number.put_double.Tie as tie
 
-put-word-requires : tie.Need-put-word-requires
-put-word-requires c κs = search needs
-
-add-put-word : tie.Need-add-put-word
-add-put-word c = search needs
-
-put-word-requires-2 : tie.Need-put-word-requires-2
-put-word-requires-2 c κs = search needs
-
-same-length : tie.Need-same-length
-same-length c = search needs
-
 returns : tie.Need-returns
 returns c =
     let f = c .before .before .before .before .before .before in
@@ -31,4 +19,4 @@ returns c =
 
 pub put-double-spec : {M : Type 1} → statement M
 put-double-spec =
-    tie.close (tie.spec put-word-requires add-put-word put-word-requires-2 same-length returns)
+    tie.close (tie.spec (λ c κs. search needs) (λ c. search needs) (λ c κs. search needs) (λ c. search needs) returns)

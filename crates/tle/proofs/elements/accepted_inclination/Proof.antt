@@ -4,12 +4,6 @@ use borrow.Author.Needs.{needs}
 use Rattle.tle.proofs.elements.accepted_inclination.Statement.{statement}
 use Rattle.tle.proofs.elements.accepted_inclination.Tie as tie
 
-accepted-angle-requires : tie.Need-accepted-angle-requires
-accepted-angle-requires c κs = search needs
-
-inside-of-requires : tie.Need-inside-of-requires
-inside-of-requires c κs = search needs
-
 returns : tie.Need-returns
 unfolding inclinationFits
 returns c = simp (c .inside-of .ensures, pi-bits, ← c .before .before .accepted-angle .ensures, c .before .if1 .taken)
@@ -20,4 +14,4 @@ returns-2 c = simp (← c .before .accepted-angle .ensures, c .if1 .left)
 
 pub accepted-inclination-spec : {M : Type 1} → statement M
 accepted-inclination-spec =
-    tie.close (tie.spec accepted-angle-requires inside-of-requires returns returns-2)
+    tie.close (tie.spec (λ c κs. search needs) (λ c κs. search needs) returns returns-2)

@@ -4,15 +4,9 @@ use borrow.Author.Needs.{needs}
 use Rattle.tle.proofs.elements.accepted_orbit.Statement.{statement}
 use Rattle.tle.proofs.elements.accepted_orbit.Tie as tie
 
-accepted-radius-requires : tie.Need-accepted-radius-requires
-accepted-radius-requires c κs = search needs
-
 returns : tie.Need-returns
 unfolding orbitFits
 returns c = simp (← c .before .accepted-radius .ensures, not-true (c .before .accepted-radius .result) (c .if1 .taken))
-
-accepted-inclination-requires : tie.Need-accepted-inclination-requires
-accepted-inclination-requires c κs = search needs
 
 returns-2 : tie.Need-returns-2
 unfolding orbitFits
@@ -21,9 +15,6 @@ returns-2 c =
     let a = i .before .before in
     simp (← a .accepted-radius .ensures, not-false (a .accepted-radius .result) (i .before .if1 .left), ← i .accepted-inclination .ensures, not-true (i .accepted-inclination .result) (c .if2 .taken))
 
-accepted-angle-requires : tie.Need-accepted-angle-requires
-accepted-angle-requires c κs = search needs
-
 returns-3 : tie.Need-returns-3
 unfolding orbitFits
 returns-3 c =
@@ -31,9 +22,6 @@ returns-3 c =
     let i = n .before .before in
     let a = i .before .before in
     simp (← a .accepted-radius .ensures, not-false (a .accepted-radius .result) (i .before .if1 .left), ← i .accepted-inclination .ensures, not-false (i .accepted-inclination .result) (n .before .if2 .left), ← n .accepted-angle .ensures, not-true (n .accepted-angle .result) (c .if3 .taken))
-
-accepted-angle-requires-2 : tie.Need-accepted-angle-requires-2
-accepted-angle-requires-2 c κs = search needs
 
 returns-4 : tie.Need-returns-4
 unfolding orbitFits
@@ -47,11 +35,11 @@ pub accepted-orbit-spec : {M : Type 1} → statement M
 accepted-orbit-spec =
     tie.close
     (tie.spec
-    accepted-radius-requires
+    (λ c κs. search needs)
     returns
-    accepted-inclination-requires
+    (λ c κs. search needs)
     returns-2
-    accepted-angle-requires
+    (λ c κs. search needs)
     returns-3
-    accepted-angle-requires-2
+    (λ c κs. search needs)
     returns-4)

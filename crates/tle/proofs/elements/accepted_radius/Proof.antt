@@ -4,12 +4,6 @@ use borrow.Author.Needs.{needs}
 use Rattle.tle.proofs.elements.accepted_radius.Statement.{statement}
 use Rattle.tle.proofs.elements.accepted_radius.Tie as tie
 
-finite-requires : tie.Need-finite-requires
-finite-requires c κs = search needs
-
-inside-of-requires : tie.Need-inside-of-requires
-inside-of-requires c κs = search needs
-
 returns : tie.Need-returns
 unfolding radiusFits
 returns c = simp (c .inside-of .ensures, leastRadius-bits, mostRadius-bits, ← c .before .before .finite .ensures, c .before .if1 .taken)
@@ -19,4 +13,4 @@ unfolding radiusFits
 returns-2 c = simp (← c .before .finite .ensures, c .if1 .left)
 
 pub accepted-radius-spec : {M : Type 1} → statement M
-accepted-radius-spec = tie.close (tie.spec finite-requires inside-of-requires returns returns-2)
+accepted-radius-spec = tie.close (tie.spec (λ c κs. search needs) (λ c κs. search needs) returns returns-2)

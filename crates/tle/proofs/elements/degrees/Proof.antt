@@ -3,15 +3,9 @@ use borrow.Author.Needs.{needs}
 use Rattle.tle.proofs.elements.degrees.Statement.{statement}
 use Rattle.tle.proofs.elements.degrees.Tie as tie
 
-to-degrees-requires : tie.Need-to-degrees-requires
-to-degrees-requires c κs = search needs
-
-rem-euclid-requires : tie.Need-rem-euclid-requires
-rem-euclid-requires c κs = search needs
-
 returns : tie.Need-returns
 unfolding printedDegrees
 returns c = simp (c .rem-euclid .ensures, c .before .to-degrees .ensures, fullCircle-bits)
 
 pub degrees-spec : {M : Type 1} → statement M
-degrees-spec = tie.close (tie.spec to-degrees-requires rem-euclid-requires returns)
+degrees-spec = tie.close (tie.spec (λ c κs. search needs) (λ c κs. search needs) returns)

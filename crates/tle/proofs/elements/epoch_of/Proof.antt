@@ -12,23 +12,8 @@ use borrow.Author.Needs.{needs}
 use Rattle.tle.proofs.elements.epoch_of.Statement.{statement}
 use Rattle.tle.proofs.elements.epoch_of.Tie as tie
 
-sub-s : tie.Need-sub-s
-sub-s c = search needs
-
-date-of-requires : tie.Need-date-of-requires
-date-of-requires c κs = search needs
-
 ordinal-requires : tie.Need-ordinal-requires
 ordinal-requires c κs = in-year _ (c .date-of .result) (c .date-of .ensures)
-
-int-to-float-day-of-year : tie.Need-int-to-float-day-of-year
-int-to-float-day-of-year c = search needs
-
-cast-day-fraction : tie.Need-cast-day-fraction
-cast-day-fraction c = search needs
-
-day-fraction-requires : tie.Need-day-fraction-requires
-day-fraction-requires c κs = search needs
 
 made : (secs nanos : ℕ) (d : Date) (o : ℕ) (f : Float) → let s = secs - march1956 in d ≡ dateOf (s / 86400) → o ≡ ordinalOf d → f ≡ dayFraction (s % 86400) nanos
     → _≡_ {A = Epoch} (record { year = d .year; day = ofNat o ⊕ f }) (epochAt secs nanos)
@@ -45,10 +30,10 @@ pub epoch-of-spec : {M : Type 1} → statement M
 epoch-of-spec =
     tie.close
     (tie.spec
-    sub-s
-    date-of-requires
+    (λ c. search needs)
+    (λ c κs. search needs)
     ordinal-requires
-    int-to-float-day-of-year
-    cast-day-fraction
-    day-fraction-requires
+    (λ c. search needs)
+    (λ c. search needs)
+    (λ c κs. search needs)
     returns)

@@ -5,12 +5,9 @@ use borrow.Author.Needs.{needs}
 use Rattle.tle.proofs.elements.mean_motion.Statement.{statement}
 use Rattle.tle.proofs.elements.mean_motion.Tie as tie
 
-sqrt-requires : tie.Need-sqrt-requires
-sqrt-requires c κs = search needs
-
 returns : tie.Need-returns
 unfolding meanMotionOf
 returns c = simp (c .sqrt .ensures, mu-bits, secondsPerDay-bits, full-bits)
 
 pub mean-motion-spec : {M : Type 1} → statement M
-mean-motion-spec = tie.close (tie.spec sqrt-requires returns)
+mean-motion-spec = tie.close (tie.spec (λ c κs. search needs) returns)

@@ -6,44 +6,11 @@ use borrow.Author.Needs.{needs}
 use Rattle.tle.proofs.lines.line_2.Statement.{statement}
 use Rattle.tle.proofs.lines.line_2.Tie as tie
 
-slice-aggregate-put-fixed : tie.Need-slice-aggregate-put-fixed
-slice-aggregate-put-fixed c = search needs
-
-put-fixed-requires : tie.Need-put-fixed-requires
-put-fixed-requires c κs = search needs
-
-slice-aggregate-put-fixed-2 : tie.Need-slice-aggregate-put-fixed-2
-slice-aggregate-put-fixed-2 c = search needs
-
-put-fixed-requires-2 : tie.Need-put-fixed-requires-2
-put-fixed-requires-2 c κs = search needs
-
-slice-aggregate-put-fixed-3 : tie.Need-slice-aggregate-put-fixed-3
-slice-aggregate-put-fixed-3 c = search needs
-
-put-fixed-requires-3 : tie.Need-put-fixed-requires-3
-put-fixed-requires-3 c κs = search needs
-
-slice-aggregate-put-fixed-4 : tie.Need-slice-aggregate-put-fixed-4
-slice-aggregate-put-fixed-4 c = search needs
-
-put-fixed-requires-4 : tie.Need-put-fixed-requires-4
-put-fixed-requires-4 c κs = search needs
-
-slice-aggregate-tle-checksum : tie.Need-slice-aggregate-tle-checksum
-slice-aggregate-tle-checksum c = search needs
-
-tle-checksum-requires : tie.Need-tle-checksum-requires
-tle-checksum-requires c κs = search needs
-
 cast-line : tie.Need-cast-line
 cast-line c = record { fits = omega (arith, c .tle-checksum .ensures, checksum-lt (take 68 (c .before .before .before .put-fixed4 .last .1 .1 .1 .0))) }
 
 add-line : tie.Need-add-line
 add-line c = record { fits = omega (arith, c .tle-checksum .ensures, checksum-lt (take 68 (c .before .before .before .put-fixed4 .last .1 .1 .1 .0))) }
-
-array-write-line : tie.Need-array-write-line
-array-write-line c = search needs
 
 returns : tie.Need-returns
 returns c =
@@ -63,17 +30,17 @@ pub line-2-spec : {M : Type 1} → statement M
 line-2-spec =
     tie.close
     (tie.spec
-    slice-aggregate-put-fixed
-    put-fixed-requires
-    slice-aggregate-put-fixed-2
-    put-fixed-requires-2
-    slice-aggregate-put-fixed-3
-    put-fixed-requires-3
-    slice-aggregate-put-fixed-4
-    put-fixed-requires-4
-    slice-aggregate-tle-checksum
-    tle-checksum-requires
+    (λ c. search needs)
+    (λ c κs. search needs)
+    (λ c. search needs)
+    (λ c κs. search needs)
+    (λ c. search needs)
+    (λ c κs. search needs)
+    (λ c. search needs)
+    (λ c κs. search needs)
+    (λ c. search needs)
+    (λ c κs. search needs)
     cast-line
     add-line
-    array-write-line
+    (λ c. search needs)
     returns)

@@ -7,22 +7,10 @@ use borrow.Author.Needs.{needs}
 use Rattle.tle.proofs.lines.put_line.Statement.{statement}
 use Rattle.tle.proofs.lines.put_line.Tie as tie
 
-copy-to-requires : tie.Need-copy-to-requires
-copy-to-requires c κs = search needs
-
-add-end : tie.Need-add-end
-add-end c = search needs
-
-slice-write-out : tie.Need-slice-write-out
-slice-write-out c = search needs
-
-same-length : tie.Need-same-length
-same-length c = search needs
-
 returns : tie.Need-returns
 returns c =
     let a = c .before .before .before .before .before .before .args in
     ap (λ (l : List ℕ). set l (a .at + length (a .line .now)) 10) (c .before .before .copy-to .ensures) ∙ line-feed (a .line .now) (a .out .now) (a .at)
 
 pub put-line-spec : {M : Type 1} → statement M
-put-line-spec = tie.close (tie.spec copy-to-requires add-end slice-write-out same-length returns)
+put-line-spec = tie.close (tie.spec (λ c κs. search needs) (λ c. search needs) (λ c. search needs) (λ c. search needs) returns)
