@@ -1,20 +1,15 @@
 // What the command says on standard error: `report_text` makes the report's lines, and here they are written.
+ghost use Rattle.io.specs.Counts.{Counts};
 use command::report::Biases;
 use command::words;
 use frame::Vec3;
 use libc::STDERR_FILENO;
+use pass_files::say::flush;
 use report_text::fitted;
 use report_text::refused;
 
 fn write(text: &[u8]) {
     io::write_all(STDERR_FILENO, text);
-}
-
-// The first n bytes.
-fn flush(text: &[u8], n: usize) {
-    if n <= text.len() {
-        write(&text[..n]);
-    }
 }
 
 pub fn usage() {
@@ -38,9 +33,7 @@ pub fn received() {
 }
 
 pub fn as_predicted() {
-    write(
-        b"frequencies as the fit predicts them, rising; give --as-received first if they fall\n",
-    );
+    write(b"frequencies as the fit predicts them, rising; give --as-received first if they fall\n");
 }
 
 // A mast that is not near the ground.
@@ -92,9 +85,7 @@ pub fn refusal(k: u32) {
 }
 
 pub fn name_unprintable() {
-    write(
-        b"fit_passes: refusal 11: the name is over 24 bytes or has a byte outside 32 to 126\n",
-    );
+    write(b"fit_passes: refusal 11: the name is over 24 bytes or has a byte outside 32 to 126\n");
 }
 
 pub fn orbit_unprintable() {
@@ -124,7 +115,9 @@ pub fn noise(rms: f64, estimate: f64, passes: usize) {
 }
 
 // The name of the file that word i gives, into the first places of out.
-fn file_name(i: usize, out: &mut [u8]) -> usize {
+fn file_name(i: usize, out: &mut [u8]) -> usize
+    ensures { λ r. ⌜ Counts r (now (out .exit)) ⌝ }
+{
     let n = os::arg(i, out);
     if os::errno() != 0 {
         return 0;
@@ -145,15 +138,5 @@ pub fn pass(i: usize, b: Biases) {
     }
     let mut path = io::buffer();
     let n = file_name(i, &mut path);
-    if n <= path.len() {
-        pass_line(&path[..n], b);
-    }
-}
-
-// A message about the file of word i.
-pub fn file(i: usize, what: &[u8]) {
-    let mut path = io::buffer();
-    let n = file_name(i, &mut path);
-    flush(&path, n);
-    write(what);
+    pass_line(&path[..n], b);
 }
