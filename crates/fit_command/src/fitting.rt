@@ -1,6 +1,6 @@
 // The fit, and what comes of it.
-ghost use Prim.Native.Nat.{_≤_};
 ghost use lib.ListN.{length};
+ghost use Rattle.ordering.specs.Order.{Alike};
 ghost use Rattle.pass_set.specs.PassSet.{Sizes};
 use crate::say;
 use command::report;
@@ -127,8 +127,9 @@ fn report(
     biases(first, order, counts, dts, dfs, df1s, df2s);
 }
 
-// Fits the set, writes what `outcome` says to standard output, and tells of it. `fit_files` meets the `requires` by proof.
-pub fn fit(
+// Fits the set, writes what `outcome` says to standard output, and tells of it. Callers meet the `requires`, here and of `fit`, by
+// proof.
+fn solve(
     first: usize,
     counts: &[u32],
     times: &[i64],
@@ -137,16 +138,16 @@ pub fn fit(
     rec_ecef: Vec3,
     initial_i: f64,
     name: &[u8],
+    order: &mut [usize],
+    counts_out: &mut [u32],
+    times_out: &mut [i64],
+    freqs_out: &mut [f64],
+    centers_out: &mut [f64],
 )
-    requires { ⌜ (first ≤ 6) × Sizes (now counts) (length (now times)) (length (now freqs)) (length (now centers)) ⌝ }
+    requires { ⌜ Sizes (now counts) (length (now times)) (length (now freqs)) (length (now centers))
+        × Alike (length (now counts)) (length (now order)) (length (now «counts_out»)) (length (now «centers_out»)) (length (now counts))
+        × Alike (length (now times)) (length (now times)) (length (now times)) (length (now «times_out»)) (length (now «freqs_out»)) ⌝ }
 {
-    let p = counts.len();
-    let s = times.len();
-    let mut order = [0usize; 16];
-    let mut counts_out = [0u32; 16];
-    let mut times_out = [0i64; 4096];
-    let mut freqs_out = [0.0f64; 4096];
-    let mut centers_out = [0.0f64; 16];
     let mut dts = [0.0f64; 16];
     let mut dfs = [0.0f64; 16];
     let mut df1s = [0.0f64; 16];
@@ -163,11 +164,11 @@ pub fn fit(
         centers,
         rec_ecef,
         initial_i,
-        &mut order[..p],
-        &mut counts_out[..p],
-        &mut times_out[..s],
-        &mut freqs_out[..s],
-        &mut centers_out[..p],
+        order,
+        counts_out,
+        times_out,
+        freqs_out,
+        centers_out,
         &mut dts,
         &mut dfs,
         &mut df1s,
@@ -182,16 +183,52 @@ pub fn fit(
     io::write_all(STDOUT_FILENO, &text[..n]);
     report(
         first,
-        &order[..p],
+        order,
         d,
-        &counts_out[..p],
-        &times_out[..s],
-        &freqs_out[..s],
-        &centers_out[..p],
+        counts_out,
+        times_out,
+        freqs_out,
+        centers_out,
         rec_ecef,
         &dts,
         &dfs,
         &df1s,
         &df2s,
+    );
+}
+
+pub fn fit(
+    first: usize,
+    counts: &[u32],
+    times: &[i64],
+    freqs: &mut [f64],
+    centers: &[f64],
+    rec_ecef: Vec3,
+    initial_i: f64,
+    name: &[u8],
+)
+    requires { ⌜ Sizes (now counts) (length (now times)) (length (now freqs)) (length (now centers)) ⌝ }
+{
+    let p = counts.len();
+    let s = times.len();
+    let mut order = [0usize; 16];
+    let mut counts_out = [0u32; 16];
+    let mut times_out = [0i64; 4096];
+    let mut freqs_out = [0.0f64; 4096];
+    let mut centers_out = [0.0f64; 16];
+    solve(
+        first,
+        counts,
+        times,
+        freqs,
+        centers,
+        rec_ecef,
+        initial_i,
+        name,
+        &mut order[..p],
+        &mut counts_out[..p],
+        &mut times_out[..s],
+        &mut freqs_out[..s],
+        &mut centers_out[..p],
     );
 }

@@ -1,20 +1,15 @@
 // What the command says on standard error: `report_text` makes the report's lines, and here they are written.
+ghost use Rattle.io.specs.Counts.{Counts};
 use command::report::Biases;
 use command::words;
 use frame::Vec3;
 use libc::STDERR_FILENO;
+use pass_files::say::flush;
 use report_text::fitted;
 use report_text::refused;
 
 fn write(text: &[u8]) {
     io::write_all(STDERR_FILENO, text);
-}
-
-// The first n bytes.
-fn flush(text: &[u8], n: usize) {
-    if n <= text.len() {
-        write(&text[..n]);
-    }
 }
 
 pub fn usage() {
@@ -120,7 +115,9 @@ pub fn noise(rms: f64, estimate: f64, passes: usize) {
 }
 
 // The name of the file that word i gives, into the first places of out.
-fn file_name(i: usize, out: &mut [u8]) -> usize {
+fn file_name(i: usize, out: &mut [u8]) -> usize
+    ensures { λ r. ⌜ Counts r (now (out .exit)) ⌝ }
+{
     let n = os::arg(i, out);
     if os::errno() != 0 {
         return 0;
@@ -141,15 +138,5 @@ pub fn pass(i: usize, b: Biases) {
     }
     let mut path = io::buffer();
     let n = file_name(i, &mut path);
-    if n <= path.len() {
-        pass_line(&path[..n], b);
-    }
-}
-
-// A message about the file of word i.
-pub fn file(i: usize, what: &[u8]) {
-    let mut path = io::buffer();
-    let n = file_name(i, &mut path);
-    flush(&path, n);
-    write(what);
+    pass_line(&path[..n], b);
 }

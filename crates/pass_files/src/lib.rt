@@ -1,6 +1,6 @@
 // The files that the command names: each is opened, read and closed, and `command::gather` adds it to the pass set. What is wrong with
 // one is told on standard error.
-mod say;
+pub mod say;
 
 ghost use mathlib.Core.Path.{_≡_};
 ghost use Prim.Native.Nat.{_≤_};

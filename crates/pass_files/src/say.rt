@@ -1,4 +1,4 @@
-// What is said of a file on standard error.
+// What is said of a file on standard error. `flush` serves the command too.
 use libc::STDERR_FILENO;
 use survey::Tally;
 
@@ -15,7 +15,7 @@ pub fn file(path: &[u8], what: &[u8]) {
 }
 
 // The first n bytes.
-fn flush(text: &[u8], n: usize) {
+pub fn flush(text: &[u8], n: usize) {
     if n <= text.len() {
         write(&text[..n]);
     }

@@ -1,6 +1,6 @@
 -- `is_off_ground` meets its contract. Assumes nothing.
-use mathlib.Core.Path.{_≡_, refl, sym, ap, _∙_}
-use mathlib.Core.Bool.{Bool, true, false, _||_}
+use mathlib.Core.Path.{_≡_}
+use mathlib.Core.Bool.{true, false, _||_}
 use lib.Ieee.{Float, lt}
 use borrow.Author.Needs.{needs}
 use Rattle.float.specs.Ops.{bits}
