@@ -9,7 +9,7 @@ use lib.Dec.{ltb}
 use lib.IntN.{ℤ, pos}
 use lib.ListN.{length, getD}
 use lib.Ieee.{Float, nan, eq}
-use Rattle.float.specs.Ops.{_⊕_, _⊗_, _⊘_, bits, one}
+use Rattle.float.specs.Ops.{_⊕_, _⊖_, _⊗_, _⊘_, bits, one}
 use Rattle.roots.specs.Root.{sqrtOf}
 use Rattle.loops.specs.Loop.{for}
 use Rattle.moment.specs.Time.{tauOf}
@@ -26,20 +26,34 @@ betweenOf t e = cond (timeInRange t && timeInRange e) (tauOf (sampleCount t) (sa
 unfoldable pub secondsAt : List ℤ → ℕ → ℕ → Float
 secondsAt times k j = cond (ltb k (length times) && ltb j (length times)) (betweenOf (getD times k (pos 0)) (getD times j (pos 0))) nan
 
--- (t_k − t_a)(t_k − t_b)(t_k − t_c)(t_k − t_d)
-unfoldable pub productOf : (times : List ℤ) (k a b c d : ℕ) → Float
-productOf times k a b c d = secondsAt times k a ⊗ secondsAt times k b ⊗ secondsAt times k c ⊗ secondsAt times k d
-
--- for each of the five samples from k on, the product of its distances from the four others
-unfoldable pub productsAt : List ℤ → ℕ → Five
-productsAt times k =
+-- the moments of the five samples from k on, each counted once, from the first of them
+unfoldable pub momentsAt : List ℤ → ℕ → Five
+momentsAt times k =
     record {
-      a = productOf times k (k + 1) (k + 2) (k + 3) (k + 4);
-      b = productOf times (k + 1) k (k + 2) (k + 3) (k + 4);
-      c = productOf times (k + 2) k (k + 1) (k + 3) (k + 4);
-      d = productOf times (k + 3) k (k + 1) (k + 2) (k + 4);
-      e = productOf times (k + 4) k (k + 1) (k + 2) (k + 3);
+      a = secondsAt times k k;
+      b = secondsAt times (k + 1) k;
+      c = secondsAt times (k + 2) k;
+      d = secondsAt times (k + 3) k;
+      e = secondsAt times (k + 4) k;
     }
+
+-- the product of the distances of t from the others
+unfoldable pub productOf : Float → Float → Float → Float → Float → Float
+productOf t p q r s = (t ⊖ p) ⊗ (t ⊖ q) ⊗ (t ⊖ r) ⊗ (t ⊖ s)
+
+-- for each of five moments, the product of its distances from the four others
+unfoldable pub productsOf : Five → Five
+productsOf t =
+    record {
+      a = productOf (t .a) (t .b) (t .c) (t .d) (t .e);
+      b = productOf (t .b) (t .a) (t .c) (t .d) (t .e);
+      c = productOf (t .c) (t .a) (t .b) (t .d) (t .e);
+      d = productOf (t .d) (t .a) (t .b) (t .c) (t .e);
+      e = productOf (t .e) (t .a) (t .b) (t .c) (t .d);
+    }
+
+unfoldable pub productsAt : List ℤ → ℕ → Five
+productsAt times k = productsOf (momentsAt times k)
 
 -- the moments are unlike: no distance is 0, to the microsecond
 unfoldable pub apartOf : Five → Bool

@@ -4,7 +4,7 @@ ghost use mathlib.Core.Path.{_≡_};
 ghost use Prim.Native.Nat.{_≤_, _+_};
 ghost use lib.Ieee.{nan};
 ghost use lib.ListN.{getD};
-ghost use Rattle.noise.specs.Noise.{betweenOf, secondsAt, productOf, productsAt, apartOf, weightsOf, frequenciesAt, differenceOf, sizeOf, windowOf, windowsOf, passOf, estimateOf};
+ghost use Rattle.noise.specs.Noise.{betweenOf, secondsAt, momentsAt, productOf, productsOf, productsAt, apartOf, weightsOf, frequenciesAt, differenceOf, sizeOf, windowOf, windowsOf, passOf, estimateOf};
 ghost use Rattle.noise.specs.Verdict.{boundOf, ratioOf, verdictOf};
 
 // A number for each of five neighbouring samples.
@@ -56,23 +56,45 @@ fn seconds(times: &[i64], k: usize, j: usize) -> f64
     between(times[k], times[j])
 }
 
-fn product(times: &[i64], k: usize, a: usize, b: usize, c: usize, d: usize) -> f64
-    ensures { λ r. ⌜ r ≡ productOf (now (times .entry)) k a b c d ⌝ }
+// The moments of five samples, each counted once, from the first of them: were each distance cut to microseconds by itself, the
+// weights would not add up to 0, and the carrier would count as noise.
+fn moments(times: &[i64], k: usize) -> Five
+    requires { ⌜ k ≤ 1099511627776 ⌝ }
+    ensures { λ r. ⌜ r ≡ momentsAt (now (times .entry)) k ⌝ }
 {
-    seconds(times, k, a) * seconds(times, k, b) * seconds(times, k, c) * seconds(times, k, d)
+    Five {
+        a: seconds(times, k, k),
+        b: seconds(times, k + 1, k),
+        c: seconds(times, k + 2, k),
+        d: seconds(times, k + 3, k),
+        e: seconds(times, k + 4, k),
+    }
+}
+
+fn product(t: f64, p: f64, q: f64, r: f64, s: f64) -> f64
+    ensures { λ v. ⌜ v ≡ productOf t p q r s ⌝ }
+{
+    (t - p) * (t - q) * (t - r) * (t - s)
+}
+
+fn products_of(t: Five) -> Five
+    ensures { λ r. ⌜ r ≡ productsOf t ⌝ }
+{
+    Five {
+        a: product(t.a, t.b, t.c, t.d, t.e),
+        b: product(t.b, t.a, t.c, t.d, t.e),
+        c: product(t.c, t.a, t.b, t.d, t.e),
+        d: product(t.d, t.a, t.b, t.c, t.e),
+        e: product(t.e, t.a, t.b, t.c, t.d),
+    }
 }
 
 fn products(times: &[i64], k: usize) -> Five
     requires { ⌜ k ≤ 1099511627776 ⌝ }
     ensures { λ r. ⌜ r ≡ productsAt (now (times .entry)) k ⌝ }
 {
-    Five {
-        a: product(times, k, k + 1, k + 2, k + 3, k + 4),
-        b: product(times, k + 1, k, k + 2, k + 3, k + 4),
-        c: product(times, k + 2, k, k + 1, k + 3, k + 4),
-        d: product(times, k + 3, k, k + 1, k + 2, k + 4),
-        e: product(times, k + 4, k, k + 1, k + 2, k + 3),
-    }
+    let t = moments(times, k);
+    products_of(t)
 }
 
 fn apart(p: Five) -> bool

@@ -5,35 +5,7 @@ use Rattle.noise.proofs.products.Tie as tie
 
 returns : tie.Need-returns
 unfolding productsAt
-returns c = let d = c .before in let x = d .before in let b = x .before in let a = b .before in simp (a .product .ensures, b .product2 .ensures, x .product3 .ensures, d .product4 .ensures, c .product5 .ensures)
+returns c = simp (c .products-of .ensures, c .before .moments .ensures)
 
 pub products-spec : {M : Type 1} → statement M
-products-spec =
-    tie.close
-    (tie.spec
-    (λ c. search needs)
-    (λ c. search needs)
-    (λ c. search needs)
-    (λ c. search needs)
-    (λ c κs. search needs)
-    (λ c. search needs)
-    (λ c. search needs)
-    (λ c. search needs)
-    (λ c. search needs)
-    (λ c κs. search needs)
-    (λ c. search needs)
-    (λ c. search needs)
-    (λ c. search needs)
-    (λ c. search needs)
-    (λ c κs. search needs)
-    (λ c. search needs)
-    (λ c. search needs)
-    (λ c. search needs)
-    (λ c. search needs)
-    (λ c κs. search needs)
-    (λ c. search needs)
-    (λ c. search needs)
-    (λ c. search needs)
-    (λ c. search needs)
-    (λ c κs. search needs)
-    returns)
+products-spec = tie.close (tie.spec (λ c κs. search needs) (λ c κs. search needs) returns)
