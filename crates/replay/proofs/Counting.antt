@@ -9,8 +9,10 @@ use native.Mathlib.Omega.{arith}
 use lib.Dec.{eqb}
 use lib.ListN.{length, getD, drop, drop-of-length-le}
 use lib.Seq.{drop-cons, drop-drop}
-use Rattle.answer_lines.specs.Lines.{firstPlace}
-use Rattle.replay.specs.Count.{linesFrom, linesIn}
+use Rattle.text.specs.Text.{bytes}
+use Rattle.answer_lines.specs.Lines.{firstPlace, beginsWith, askedFields, fieldAt}
+use Rattle.replay.specs.declared.Tally.{Tally}
+use Rattle.replay.specs.Count.{linesFrom, linesIn, counted, tallyWith, tallyEnded, Tallied, last, asked}
 
 -- what is left of a text after its first line
 after : List ℕ → List ℕ
@@ -51,3 +53,28 @@ whole text = zero-add _
 pub ended : (text : List ℕ) (at : ℕ) → length text ≤ at → linesFrom false (drop at text) ≡ 0
 unfolding linesFrom
 ended text at h = rw (drop-of-length-le text h)
+
+-- each line is counted once
+
+with-one : (t : Tally) (changed same : Bool) → counted (tallyWith t changed same) ≡ counted t + 1
+unfolding tallyWith
+with-one t false true = omega arith
+with-one t false false = omega arith
+with-one t true false = omega arith
+with-one t true true = omega arith
+
+with-last : (t : Tally) (said : ℕ) → counted (tallyEnded t said) ≡ counted t + 1
+unfolding tallyEnded
+with-last t said = omega arith
+
+pub one-more : {t : Tally} {line : List ℕ} {r : Tally} → Tallied t line r → counted r ≡ counted t + 1
+one-more {t} (last h e) = ap counted e ∙ with-last t _
+one-more {t} (asked h same e) = ap counted e ∙ with-one t _ same
+
+pub last-line : {t r : Tally} {line fields : List ℕ} {found : Bool} {said : ℕ} → found ≡ beginsWith (bytes "end ") line → found ≡ true →
+    fields ≡ askedFields line → said ≡ fieldAt fields 0 → r ≡ tallyEnded t said → Tallied t line r
+last-line {t} p q f s e = last (sym p ∙ q) (e ∙ ap (tallyEnded t) (s ∙ ap (λ (l : List ℕ). fieldAt l 0) f))
+
+pub asked-line : {t r : Tally} {line : List ℕ} {found mark : Bool} (same : Bool) → found ≡ beginsWith (bytes "end ") line → found ≡ false →
+    mark ≡ beginsWith (bytes "not ") line → r ≡ tallyWith t mark same → Tallied t line r
+asked-line {t} same p q m e = asked (sym p ∙ q) same (e ∙ ap (λ (b : Bool). tallyWith t b same) m)

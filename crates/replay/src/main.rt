@@ -10,7 +10,7 @@ ghost use mathlib.Core.Path.{_≡_};
 ghost use Prim.Native.Nat.{_+_, _<_};
 ghost use mathlib.Core.List.{_++_};
 ghost use Rattle.append.specs.Append.{Appends, numeral};
-ghost use Rattle.replay.specs.Count.{linesIn, counted};
+ghost use Rattle.replay.specs.Count.{linesIn, counted, tallyWith, tallyEnded, Tallied};
 ghost use Rattle.replay.specs.Report.{listEnding, reportText, Reports};
 
 // What the lines came to so far.
@@ -37,25 +37,13 @@ fn show(line: &[u8]) {
     io::write_all(1, b"\n");
 }
 
-// The tally with one line more. A line that is not as it must be is written.
-fn tallied(t: Tally, line: &[u8]) -> Tally
+// The tally with one line more, which was changed or not, and agrees or not.
+fn noted(t: Tally, changed: bool, same: bool) -> Tally
     requires { ⌜ counted t + 1 < 18446744073709551616 ⌝ }
-    ensures { λ r. ⌜ counted r ≡ counted t + 1 ⌝ }
+    ensures { λ r. ⌜ r ≡ tallyWith t changed same ⌝ }
 {
-    if answer_lines::begins_with(line, b"end ") {
-        let before = t.agreed + t.differed + t.caught + t.missed + t.ends;
-        return Tally {
-            agreed: t.agreed,
-            differed: t.differed,
-            caught: t.caught,
-            missed: t.missed,
-            ends: t.ends + 1,
-            whole: answer_lines::field(answer_lines::asked(line), 0) == before,
-        };
-    }
-    if answer_lines::begins_with(line, b"not ") {
-        if agrees(answer_lines::after(line, 4)) {
-            show(line);
+    if changed {
+        if same {
             return Tally {
                 agreed: t.agreed,
                 differed: t.differed,
@@ -74,7 +62,7 @@ fn tallied(t: Tally, line: &[u8]) -> Tally
             whole: false,
         };
     }
-    if agrees(line) {
+    if same {
         return Tally {
             agreed: t.agreed + 1,
             differed: t.differed,
@@ -84,7 +72,6 @@ fn tallied(t: Tally, line: &[u8]) -> Tally
             whole: false,
         };
     }
-    show(line);
     Tally {
         agreed: t.agreed,
         differed: t.differed + 1,
@@ -93,6 +80,44 @@ fn tallied(t: Tally, line: &[u8]) -> Tally
         ends: t.ends,
         whole: false,
     }
+}
+
+// The tally with a last line, which says how many lines stand before it.
+fn ended(t: Tally, said: u64) -> Tally
+    requires { ⌜ counted t + 1 < 18446744073709551616 ⌝ }
+    ensures { λ r. ⌜ r ≡ tallyEnded t said ⌝ }
+{
+    let before = t.agreed + t.differed + t.caught + t.missed + t.ends;
+    Tally {
+        agreed: t.agreed,
+        differed: t.differed,
+        caught: t.caught,
+        missed: t.missed,
+        ends: t.ends + 1,
+        whole: said == before,
+    }
+}
+
+// Whether the line agrees, its mark `not ` put aside. A line that is not as it must be is written.
+fn found(line: &[u8], changed: bool) -> bool {
+    let mark = if changed { 4usize } else { 0usize };
+    let same = agrees(answer_lines::after(line, mark));
+    if same == changed {
+        show(line);
+    }
+    same
+}
+
+// The tally with one line more.
+fn tallied(t: Tally, line: &[u8]) -> Tally
+    requires { ⌜ counted t + 1 < 18446744073709551616 ⌝ }
+    ensures { λ r. ⌜ Tallied t (now (line .entry)) r ⌝ }
+{
+    if answer_lines::begins_with(line, b"end ") {
+        return ended(t, answer_lines::field(answer_lines::asked(line), 0));
+    }
+    let changed = answer_lines::begins_with(line, b"not ");
+    noted(t, changed, found(line, changed))
 }
 
 // The tally of a whole list: every line is counted, and once.

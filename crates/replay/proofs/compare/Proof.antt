@@ -6,7 +6,7 @@ use native.Mathlib.Omega.{arith}
 use lib.ListN.{length, drop}
 use borrow.Author.Needs.{needs}
 use Rattle.replay.specs.Count.{linesFrom, linesIn, counted}
-use Rattle.replay.proofs.Counting.{line, whole, ended}
+use Rattle.replay.proofs.Counting.{line, whole, ended, one-more}
 use Rattle.replay.proofs.compare.Statement.{statement}
 use Rattle.replay.proofs.compare.Tie as tie
 
@@ -26,7 +26,7 @@ loop-again c =
     let text = l .before .before .args .text .now in
     let i = l .loop .inv in
     let one = line text (l .loop .at) (e .line-end .result) (e .before .loop-test .taken) (e .line-end .ensures .0) in
-    (omega (arith, e .line-end .ensures .1), omega (arith, c .tallied .ensures, i .1, e .line-end .ensures .0), omega (arith, c .tallied .ensures, i .2, one))
+    (omega (arith, e .line-end .ensures .1), omega (arith, one-more (c .tallied .ensures), i .1, e .line-end .ensures .0), omega (arith, one-more (c .tallied .ensures), i .2, one))
 
 returns : tie.Need-returns Inv-loop μ-loop
 returns c =
