@@ -65,10 +65,14 @@ module _ (received : Bool) (counts : List ℕ) (times : List ℤ) (freqs centers
   unfolding fittedSet heard
   set-is = rw f at s
 
+  mirrored-is : freqs″ ≡ heard received (passSet counts times freqs centers) .freqs
+  unfolding heard
+  mirrored-is = f
+
   pub comes : (rec : Vec3) (i : Float) {w w′ : Outputs} {scratch scratch′ : List Float} (name text : List ℕ) {text′ : List ℕ} {d : Determination}
       → Determines (arguments counts′ times′ freqs′ centers′ rec (bits 0x415ab3f000000000) i) w w′ scratch scratch′ name text text′ d
-      → Comes received (passSet counts times freqs centers) (passSet counts′ times′ freqs′ centers′) order rec i w w′ scratch scratch′ name text text′ d
+      → Comes received (passSet counts times freqs centers) (passSet counts′ times′ freqs′ centers′) freqs″ order rec i w w′ scratch scratch′ name text text′ d
   comes rec i {w} {w′} {scratch} {scratch′} name text {text′} {d} h =
       let g : Determines (given (fittedSet received (passSet counts times freqs centers)) rec i) w w′ scratch scratch′ name text text′ d =
       subst (λ (t : PassSet). Determines (given t rec i) w w′ scratch scratch′ name text text′ d) set-is (rw initialA-bits at h) in
-      record { ordered = o; set = set-is; determined = g; writes = text-writes name text g }
+      record { mirrored = mirrored-is; ordered = o; set = set-is; determined = g; writes = text-writes name text g }

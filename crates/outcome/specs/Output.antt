@@ -67,8 +67,10 @@ pub record Writes (n : ℕ) (text written : List ℕ) : Type 0 where
   pub room : n ≤ length text
   pub is : take n text ≡ written
 
--- What `outcome` promises: the set that is fitted, the numbers that its passes had, the determination, and the bytes to write.
-pub record Comes (received : Bool) (s s′ : PassSet) (order : List ℕ) (rec : Vec3) (i : Float) (w w′ : Outputs) (scratch scratch′ : List Float) (name text text′ : List ℕ) (d : Determination) : Type 0 where
+-- What `outcome` promises: the lent frequencies mirrored or as they were, the numbers that the passes had, the set that is fitted, the
+-- determination, and the bytes to write.
+pub record Comes (received : Bool) (s s′ : PassSet) (freqs′ : List Float) (order : List ℕ) (rec : Vec3) (i : Float) (w w′ : Outputs) (scratch scratch′ : List Float) (name text text′ : List ℕ) (d : Determination) : Type 0 where
+  pub mirrored : freqs′ ≡ heard received s .freqs
   pub ordered : order ≡ orderOf (s .counts) (s .times)
   pub set : s′ ≡ fittedSet received s
   pub determined : Determines (given (fittedSet received s) rec i) w w′ scratch scratch′ name text text′ d

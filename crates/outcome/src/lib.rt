@@ -23,7 +23,7 @@ fn hear(as_received: bool, counts: &[u32], centers: &[f64], freqs: &mut [f64])
 }
 
 // Fits the passes, by time, and puts what goes to standard output into `text`: its first bytes, as many as the lines' length. The set
-// that was fitted comes back in the arrays `_out`, and in `order` the numbers that its passes had.
+// that was fitted comes back in the arrays `_out`, and in `order` the numbers that its passes had; `freqs` are mirrored in place.
 pub fn outcome(
     as_received: bool,
     counts: &[u32],
@@ -50,7 +50,7 @@ pub fn outcome(
         × Alike (length (now counts)) (length (now order)) (length (now «counts_out»)) (length (now «centers_out»)) (length (now counts))
         × Alike (length (now times)) (length (now times)) (length (now times)) (length (now «times_out»)) (length (now «freqs_out»)) ⌝ }
     ensures { λ d. ⌜ Comes «as_received» (passSet (now (counts .entry)) (now (times .entry)) (now (freqs .entry)) (now (centers .entry)))
-        (passSet (now («counts_out» .exit)) (now («times_out» .exit)) (now («freqs_out» .exit)) (now («centers_out» .exit))) (now (order .exit)) «rec_ecef» «initial_i»
+        (passSet (now («counts_out» .exit)) (now («times_out» .exit)) (now («freqs_out» .exit)) (now («centers_out» .exit))) (now (freqs .exit)) (now (order .exit)) «rec_ecef» «initial_i»
         (outputs (now (dts .entry)) (now (dfs .entry)) (now (df1s .entry)) (now (df2s .entry)) (now (log .entry)))
         (outputs (now (dts .exit)) (now (dfs .exit)) (now (df1s .exit)) (now (df2s .exit)) (now (log .exit))) (now (scratch .entry)) (now (scratch .exit))
         (now (name .entry)) (now (text .entry)) (now (text .exit)) d ⌝ }
