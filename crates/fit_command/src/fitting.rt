@@ -2,6 +2,7 @@
 ghost use lib.ListN.{length};
 ghost use Rattle.ordering.specs.Order.{Alike};
 ghost use Rattle.pass_set.specs.PassSet.{Sizes};
+ghost use Rattle.pass_checks.specs.Checks.{Whole};
 use crate::say;
 use command::report;
 use command::report::Biases;
@@ -84,9 +85,19 @@ fn tell_noise(rms: f64, counts: &[u32], times: &[i64], freqs: &[f64]) {
     say::noise(rms, noise::estimate(counts, times, freqs), full.passes);
 }
 
+// Why there is no fit; `nan` is the first file with a frequency that is not a number.
+fn fit_refused(k: u32, first: usize, nan: usize) {
+    if k == refusal::NAN_FREQUENCY {
+        say::file_refusal(word_of(nan, first), k);
+        return;
+    }
+    say::refusal(k);
+}
+
 // The report of an accepted fit, or why there is none.
 fn report(
     first: usize,
+    nan: usize,
     order: &[usize],
     d: Determination,
     counts: &[u32],
@@ -101,7 +112,7 @@ fn report(
 ) {
     let f = d.fit;
     if f.refusal != 0 {
-        say::refusal(f.refusal);
+        fit_refused(f.refusal, first, nan);
         return;
     }
     let orbit = f.orbit;
@@ -131,6 +142,7 @@ fn report(
 // proof.
 fn solve(
     first: usize,
+    nan: usize,
     counts: &[u32],
     times: &[i64],
     freqs: &mut [f64],
@@ -183,6 +195,7 @@ fn solve(
     io::write_all(STDOUT_FILENO, &text[..n]);
     report(
         first,
+        nan,
         order,
         d,
         counts_out,
@@ -197,8 +210,9 @@ fn solve(
     );
 }
 
-pub fn fit(
+fn fit(
     first: usize,
+    nan: usize,
     counts: &[u32],
     times: &[i64],
     freqs: &mut [f64],
@@ -218,6 +232,7 @@ pub fn fit(
     let mut centers_out = [0.0f64; 16];
     solve(
         first,
+        nan,
         counts,
         times,
         freqs,
@@ -230,5 +245,45 @@ pub fn fit(
         &mut times_out[..s],
         &mut freqs_out[..s],
         &mut centers_out[..p],
+    );
+}
+
+// Each file with the samples of one before it.
+fn tell_twins(first: usize, counts: &[u32], times: &[i64], freqs: &[f64])
+    requires { ⌜ Whole (now counts) (length (now times)) × Whole (now counts) (length (now freqs)) ⌝ }
+{
+    for q in 0..counts.len() {
+        let p = pass_checks::twin(counts, times, freqs, q);
+        if p < q {
+            say::twice(word_of(q, first), word_of(p, first));
+        }
+    }
+}
+
+// Tells what is odd in the set, and fits it.
+pub fn check_and_fit(
+    first: usize,
+    counts: &[u32],
+    times: &[i64],
+    freqs: &mut [f64],
+    centers: &[f64],
+    rec_ecef: Vec3,
+    initial_i: f64,
+    name: &[u8],
+)
+    requires { ⌜ Sizes (now counts) (length (now times)) (length (now freqs)) (length (now centers)) ⌝ }
+{
+    tell_twins(first, counts, times, freqs);
+    let nan = pass_checks::nan_pass(counts, freqs);
+    fit(
+        first,
+        nan,
+        counts,
+        times,
+        freqs,
+        centers,
+        rec_ecef,
+        initial_i,
+        name,
     );
 }

@@ -38,7 +38,7 @@ fn fit_files(first: usize, n: usize, rec_ecef: Vec3, initial_i: f64)
     if size == 0 {
         say::empty_name();
     }
-    fitting::fit(
+    fitting::check_and_fit(
         first,
         &counts[..p],
         &times[..s],

@@ -140,3 +140,32 @@ pub fn pass(i: usize, b: Biases) {
     let n = file_name(i, &mut path);
     pass_line(&path[..n], b);
 }
+
+fn refused_line(name: &[u8], k: u32) {
+    let mut text = [0u8; 4608];
+    let n = refused::file_refusal(name, 0, k, &mut text, 0);
+    flush(&text, n);
+}
+
+// A refusal for what is in the file of word i.
+pub fn file_refusal(i: usize, k: u32) {
+    let mut path = io::buffer();
+    let n = file_name(i, &mut path);
+    refused_line(&path[..n], k);
+}
+
+// The name of the file of word i.
+fn word_of_file(i: usize) {
+    let mut path = io::buffer();
+    let n = file_name(i, &mut path);
+    write(&path[..n]);
+}
+
+// The file of word i has the samples of that of word j.
+pub fn twice(i: usize, j: usize) {
+    write(b"warning: ");
+    word_of_file(i);
+    write(b": the same samples as ");
+    word_of_file(j);
+    write(b": the same file twice?\n");
+}

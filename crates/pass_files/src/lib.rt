@@ -9,6 +9,7 @@ ghost use Rattle.io.specs.Counts.{Counts};
 ghost use Rattle.command.specs.Gather.{arrays, Continues, Gathers};
 use command::gather;
 use command::gather::Gathered;
+use command::gather::Name;
 
 // The bytes of the largest file that is read: 4,096 lines of 256 bytes with CR LF take 1,056,768.
 const MAX_FILE: usize = 1114112;
@@ -79,6 +80,13 @@ fn read_file(fd: i32, path: &[u8], buf: &mut [u8]) -> Content
     c
 }
 
+// Before a file is added: whether it names another satellite than those before it.
+fn tell_name(path: &[u8], kept: Name, name: &[u8], file: &[u8]) {
+    if kept.seen {
+        say::other_name(path, name, kept.size, file);
+    }
+}
+
 // The open file's content is added.
 fn add_content(
     fd: i32,
@@ -99,6 +107,7 @@ fn add_content(
         return gather::stopped(g, 0);
     }
     let n = c.size;
+    tell_name(path, g.name, name, &bytes[..n]);
     let r = gather::add(&bytes[..n], g, counts, times, freqs, centers, name);
     say::lines(path, &bytes[..n], r.refusal);
     r

@@ -34,6 +34,14 @@ fn all_or_some(t: Tally) {
     io::print_decimal(STDERR_FILENO, t.skipped as u64);
 }
 
+fn line_or_lines(n: usize) {
+    if n == 1 {
+        write(b" line that is");
+        return;
+    }
+    write(b" lines that are");
+}
+
 fn skipped(path: &[u8], t: Tally) {
     if t.skipped == 0 {
         return;
@@ -42,7 +50,8 @@ fn skipped(path: &[u8], t: Tally) {
     write(path);
     write(b": skipped ");
     all_or_some(t);
-    write(b" lines that are neither a header nor a sample, first line ");
+    line_or_lines(t.skipped);
+    write(b" neither a header nor a sample, first line ");
     io::print_decimal(STDERR_FILENO, t.first as u64);
     write(b"\n");
 }
@@ -55,4 +64,21 @@ pub fn lines(path: &[u8], file: &[u8], k: u32) {
         return;
     }
     skipped(path, t);
+}
+
+fn unlike(path: &[u8], name: &[u8], file: &[u8]) {
+    if pass_checks::is_other_name(name, file) {
+        write(b"warning: ");
+        write(path);
+        write(b": its satellite's name differs from that of a file before it, ");
+        write(name);
+        write(b"\n");
+    }
+}
+
+// A file that names another satellite than a file before it, whose name is in the first n bytes.
+pub fn other_name(path: &[u8], name: &[u8], n: usize, file: &[u8]) {
+    if n <= name.len() {
+        unlike(path, &name[..n], file);
+    }
 }
