@@ -94,7 +94,7 @@ pub record Holds (files : List (List ℕ)) (g : Gathered) (a : Arrays) : Type 0 
 -- ---- a file's pass behind p passes and s samples
 
 -- p passes and s samples are there: no room for another pass, or more samples than room, in arrays of these lengths
-unfoldable pub isFull : ℕ → ℕ → ℕ → ℕ → ℕ → ℕ → Bool
+unfoldable pub isFull : (p s counts times freqs centers : ℕ) → Bool
 isFull p s counts times freqs centers = leb counts p || (leb centers p || (ltb times s || ltb freqs s))
 
 -- the file's own refusal; that its samples find no room is 5 here

@@ -52,7 +52,7 @@ module _ (times : List ℤ) (freqs : List Float) where
   squaresOf g at end sum = for at end (squareOf g) sum
 
 -- a pass of n samples more: the biases are those of the next non-empty pass
-abbrev pub passAt : List ℤ → Float → SolvedOrbit → Vec3 → List Float → List Float → List Float → List Float → ℕ → ℕ → Pass
+abbrev pub passAt : (times : List ℤ) (center : Float) (orbit : SolvedOrbit) (rec : Vec3) (dts dfs df1s df2s : List Float) (at q : ℕ) → Pass
 passAt times center orbit rec dts dfs df1s df2s at q =
     record {
       dt = getD dts q nan;
@@ -85,7 +85,7 @@ abbrev pub meanRoot : Walk → Float
 meanRoot w = sqrtOf (w .sum ⊘ ofInt binary64 (pos (w .at)))
 
 -- over all passes, with the first non-empty pass's centre, as the fit takes it
-unfoldable pub rmsOf : List ℕ → List ℤ → List Float → List Float → Vec3 → SolvedOrbit → List Float → List Float → List Float → List Float → Float
+unfoldable pub rmsOf : (counts : List ℕ) (times : List ℤ) (freqs centers : List Float) (rec : Vec3) (orbit : SolvedOrbit) (dts dfs df1s df2s : List Float) → Float
 rmsOf counts times freqs centers rec orbit dts dfs df1s df2s =
     cond (ltb 16 (length counts) || not (eqb (length centers) (length counts))) nan
     (meanRoot (for 0 (length counts) (withPass times freqs (centerOf counts centers) orbit rec dts dfs df1s df2s counts) opening))
@@ -97,7 +97,7 @@ noBiases = record { sampled = false; dt = nan; df = nan; df1 = nan; df2 = nan }
 abbrev pub biasesAt : List Float → List Float → List Float → List Float → ℕ → Biases
 biasesAt dts dfs df1s df2s q = record { sampled = true; dt = getD dts q nan; df = getD dfs q nan; df1 = getD df1s q nan; df2 = getD df2s q nan }
 
-unfoldable pub biasesOf : List ℕ → ℕ → List Float → List Float → List Float → List Float → Biases
+unfoldable pub biasesOf : (counts : List ℕ) (p : ℕ) (dts dfs df1s df2s : List Float) → Biases
 biasesOf counts p dts dfs df1s df2s =
     cond (ltb 16 (length counts) || eqb (getD counts p 0) 0) noBiases (biasesAt dts dfs df1s df2s (length (nonEmpty (take p counts))))
 
