@@ -16,6 +16,7 @@ use Rattle.orbit.specs.Orbit.{ecefAt, propagateEcefOf}
 use Rattle.orbit.specs.Doppler.{predictedOf, biasOf, predictFrequencyOf, predictFrequencyPolyOf}
 use Rattle.orbit.specs.declared.Ecef.the-variants as ecef
 use Rattle.orbit.specs.declared.doppler.DfPoly.{DfPoly}
+use Rattle.orbit.specs.declared.doppler.Station.{Station}
 use Rattle.orbit.specs.declared.doppler.Prediction.{Prediction}
 use Rattle.orbit.specs.declared.doppler.Prediction.the-variants.{Refused}
 
@@ -31,6 +32,9 @@ no m h = outside (m .seconds) (m .nanos) h
 is : (m : Moment) (i : Instant) → Takes m i → Is (m .seconds) (m .nanos) (i .secs) (i .nanos)
 is m i h = at-is (m .seconds) (m .nanos) i h
 
+abbrev pub from : Instant → Float → Vec3 → Station
+from e centre p = record { epoch = e; «center_freq» = centre; «rec_ecef» = p }
+
 module _ (a i raan0 u0 : Float) (epoch t : Moment) (dt df centre : Float) (p : Vec3) where
   pub epoch-out : Refuses epoch → Refused 4 ≡ predictFrequencyOf a i raan0 u0 epoch t dt df centre p
   unfolding predictFrequencyOf
@@ -41,9 +45,9 @@ module _ (a i raan0 u0 : Float) (epoch t : Moment) (dt df centre : Float) (p : V
   t-out e g h = simp (is epoch e g .yes, no t h)
 
   pub predicted : (e s : Instant) (r : Prediction) → Takes epoch e → Takes t s
-      → r ≡ predictedOf a i raan0 u0 (nanosOf (e .secs) (e .nanos)) (nanosOf (s .secs) (s .nanos)) (turnAt (s .secs) (s .nanos)) dt df df centre p
+      → r ≡ predictedOf (from e centre p) (record { a = a; i = i; raan0 = raan0; u0 = u0 }) (nanosOf (s .secs) (s .nanos)) (turnAt (s .secs) (s .nanos)) dt df df
       → r ≡ predictFrequencyOf a i raan0 u0 epoch t dt df centre p
-  unfolding predictFrequencyOf
+  unfolding predictFrequencyOf predictedOf
   predicted e s r g h q =
       let x = is epoch e g in
       let y = is t s h in
@@ -64,9 +68,9 @@ module _ (a i raan0 u0 : Float) (epoch t : Moment) (dt : Float) (d : DfPoly) (re
 
   pub poly-predicted : (e s f : Instant) (tau bias : Float) (r : Prediction) → Takes epoch e → Takes t s → Takes ref f
       → tau ≡ tauMillisOf (nanosOf (s .secs) (s .nanos)) (nanosOf (f .secs) (f .nanos)) → bias ≡ biasOf d tau
-      → r ≡ predictedOf a i raan0 u0 (nanosOf (e .secs) (e .nanos)) (nanosOf (s .secs) (s .nanos)) (turnAt (s .secs) (s .nanos)) dt (d .0) bias centre p
+      → r ≡ predictedOf (from e centre p) (record { a = a; i = i; raan0 = raan0; u0 = u0 }) (nanosOf (s .secs) (s .nanos)) (turnAt (s .secs) (s .nanos)) dt (d .0) bias
       → r ≡ predictFrequencyPolyOf a i raan0 u0 epoch t dt d ref centre p
-  unfolding predictFrequencyPolyOf
+  unfolding predictFrequencyPolyOf predictedOf
   poly-predicted e s f tau bias r g h k m b q =
       let x = is epoch e g in
       let y = is t s h in

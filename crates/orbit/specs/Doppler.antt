@@ -10,7 +10,7 @@ use Rattle.float.specs.declared.trig.SinCos.{SinCos}
 use Rattle.roots.specs.Root.{sqrtOf}
 use Rattle.refusal.specs.Numbers as refusal
 use Rattle.refusal.specs.Order.{first, _if_, unless}
-use Rattle.moment.specs.Time.{movedOf, overOf, tauOf, tauMillisOf, million}
+use Rattle.moment.specs.Time.{secondsOf, nanosOf, movedOf, overOf, tauOf, tauMillisOf, million}
 use Rattle.moment.specs.Range.{taken, countOf}
 use Rattle.moment.specs.declared.Moment.{Moment}
 use Rattle.frame.specs.declared.State.{State}
@@ -19,6 +19,8 @@ use Rattle.orbit.specs.Orbit.{mu, ratesOf, propagatedOf, ecefAt, hoisted
 use Rattle.orbit.specs.declared.Elements.{Elements}
 use Rattle.orbit.specs.declared.Rates.{Rates}
 use Rattle.orbit.specs.declared.doppler.DfPoly.{DfPoly}
+use Rattle.orbit.specs.declared.doppler.Station.{Station}
+use Rattle.orbit.specs.declared.doppler.Sight.{Sight}
 use Rattle.orbit.specs.declared.doppler.Prediction.{Prediction}
 use Rattle.orbit.specs.declared.doppler.Prediction.the-variants.{Frequency, Refused}
 
@@ -62,31 +64,44 @@ adjustedOf t dt = movedOf t 1000 (toSigned 63 (dt ⊗ million))
 abbrev pub correctedOf : ℕ → State → ℕ
 correctedOf t s = movedOf t 1 (toSigned 63 (driftOf s))
 
--- from what is worked out before: rates, rotation at t_obs, potential at the receiver
-unfoldable pub predictedAt : (e : Elements) (k : Rates) (epoch t : ℕ) (turn : SinCos) (dt near bias centre : Float) (p : Vec3) (uRec : Float) → Prediction
-predictedAt e k epoch t turn dt near bias centre p uRec =
+-- what is worked out before: an orbit's rates, and the potential at the receiver
+unfoldable pub sightOf : Station → Elements → Sight
+sightOf g e = record { station = g; e = e; k = ratesOf e; «u_rec» = potentialOf (g .«rec_ecef» .x) (g .«rec_ecef» .y) (g .«rec_ecef» .z) }
+
+abbrev pub epochCount : Station → ℕ
+epochCount g = nanosOf (g .epoch .secs) (g .epoch .nanos)
+
+-- from it, and from the rotation at t_obs
+unfoldable pub predictedAt : (v : Sight) (t : ℕ) (turn : SinCos) (dt near bias : Float) → Prediction
+predictedAt v t turn dt near bias =
+    let g = v .station in
     let tAdj = adjustedOf t dt in
-    let tCorr = correctedOf tAdj (propagatedOf e k (tauOf tAdj epoch) turn) in
-    unless Refused (farMoments tAdj tCorr) (Frequency (receivedOf (propagatedOf e k (tauOf tCorr epoch) turn) p uRec near bias centre))
+    let tCorr = correctedOf tAdj (propagatedOf (v .e) (v .k) (tauOf tAdj (epochCount g)) turn) in
+    unless Refused (farMoments tAdj tCorr)
+    (Frequency (receivedOf (propagatedOf (v .e) (v .k) (tauOf tCorr (epochCount g)) turn) (g .«rec_ecef») (v .«u_rec») near bias (g .«center_freq»)))
 
 -- The Rust's text, over counts of nanoseconds, with the rotation at t_obs; `near` is added to the centre within a metre
-unfoldable pub predictedOf : (a i raan0 u0 : Float) (epoch t : ℕ) (turn : SinCos) (dt near bias centre : Float) (p : Vec3) → Prediction
-predictedOf a i raan0 u0 epoch t turn dt near bias centre p =
+unfoldable pub predictedOf : (g : Station) (e : Elements) (t : ℕ) (turn : SinCos) (dt near bias : Float) → Prediction
+predictedOf g e t turn dt near bias =
+    let p = g .«rec_ecef» in
     let tAdj = adjustedOf t dt in
-    let tCorr = correctedOf tAdj (ecefAt a i raan0 u0 (tauOf tAdj epoch) turn) in
+    let tCorr = correctedOf tAdj (ecefAt (e .a) (e .i) (e .raan0) (e .u0) (tauOf tAdj (epochCount g)) turn) in
     unless Refused (farMoments tAdj tCorr)
-    (Frequency (receivedOf (ecefAt a i raan0 u0 (tauOf tCorr epoch) turn) p (potentialOf (p .x) (p .y) (p .z)) near bias centre))
+    (Frequency (receivedOf (ecefAt (e .a) (e .i) (e .raan0) (e .u0) (tauOf tCorr (epochCount g)) turn) p (potentialOf (p .x) (p .y) (p .z)) near bias (g .«center_freq»)))
 
 -- what is worked out before is the Rust's
-pub predicted-hoisted : (e : Elements) (epoch t : ℕ) (turn : SinCos) (dt near bias centre : Float) (p : Vec3)
-    → predictedAt e (ratesOf e) epoch t turn dt near bias centre p (potentialOf (p .x) (p .y) (p .z)) ≡ predictedOf (e .a) (e .i) (e .raan0) (e .u0) epoch t turn dt near bias centre p
-unfolding predictedAt predictedOf
-predicted-hoisted e epoch t turn dt near bias centre p = simp hoisted
+pub predicted-hoisted : (g : Station) (e : Elements) (t : ℕ) (turn : SinCos) (dt near bias : Float) → predictedAt (sightOf g e) t turn dt near bias ≡ predictedOf g e t turn dt near bias
+unfolding sightOf predictedAt predictedOf
+predicted-hoisted g e t turn dt near bias = simp hoisted
+
+-- a station as a caller gives it
+abbrev pub stationAt : Moment → Float → Vec3 → Station
+stationAt epoch centre p = record { epoch = record { secs = secondsOf (epoch .seconds); nanos = epoch .nanos }; «center_freq» = centre; «rec_ecef» = p }
 
 unfoldable pub predictFrequencyOf : (a i raan0 u0 : Float) (epoch tObs : Moment) (dt df centre : Float) (p : Vec3) → Prediction
 predictFrequencyOf a i raan0 u0 epoch tObs dt df centre p =
     unless Refused (first ((refusal.moment-range if not (taken epoch && taken tObs)) ∷ []))
-    (predictedOf a i raan0 u0 (countOf epoch) (countOf tObs) (turnOf tObs) dt df df centre p)
+    (predictedOf (stationAt epoch centre p) (record { a = a; i = i; raan0 = raan0; u0 = u0 }) (countOf tObs) (turnOf tObs) dt df df)
 
 unfoldable pub biasOf : DfPoly → Float → Float
 biasOf d tau = d .0 ⊕ d .1 ⊗ tau ⊕ d .2 ⊗ tau ⊗ tau
@@ -94,4 +109,4 @@ biasOf d tau = d .0 ⊕ d .1 ⊗ tau ⊕ d .2 ⊗ tau ⊗ tau
 unfoldable pub predictFrequencyPolyOf : (a i raan0 u0 : Float) (epoch tObs : Moment) (dt : Float) (d : DfPoly) (tRef : Moment) (centre : Float) (p : Vec3) → Prediction
 predictFrequencyPolyOf a i raan0 u0 epoch tObs dt d tRef centre p =
     unless Refused (first ((refusal.moment-range if not (taken epoch && taken tObs && taken tRef)) ∷ []))
-    (predictedOf a i raan0 u0 (countOf epoch) (countOf tObs) (turnOf tObs) dt (d .0) (biasOf d (tauMillisOf (countOf tObs) (countOf tRef))) centre p)
+    (predictedOf (stationAt epoch centre p) (record { a = a; i = i; raan0 = raan0; u0 = u0 }) (countOf tObs) (turnOf tObs) dt (d .0) (biasOf d (tauMillisOf (countOf tObs) (countOf tRef))))

@@ -4,7 +4,7 @@ ghost use Prim.Native.Nat.{_<_, _≤_};
 ghost use Rattle.moment.specs.Time.{nanosOf, Sound};
 ghost use Rattle.moment.specs.Range.{Within};
 ghost use Rattle.frame.specs.Rotation.{turnAt};
-ghost use Rattle.orbit.specs.Doppler.{dotOf, potentialOf, receivedOf, driftOf, predictedAt, predictedOf, biasOf, predictFrequencyOf, predictFrequencyPolyOf};
+ghost use Rattle.orbit.specs.Doppler.{dotOf, potentialOf, receivedOf, driftOf, sightOf, predictedAt, predictedOf, biasOf, predictFrequencyOf, predictFrequencyPolyOf};
 use crate::Elements;
 use crate::MU;
 use crate::Rates;
@@ -26,6 +26,22 @@ pub enum Prediction {
 
 // A bias and its first two derivatives.
 pub struct DfPoly(pub f64, pub f64, pub f64);
+
+// What all predictions of a fit share: the epoch of the elements, the centre frequency in Hz, and the receiver's place, Earth-fixed in m.
+pub struct Station {
+    pub epoch: Instant,
+    pub center_freq: f64,
+    pub rec_ecef: Vec3,
+}
+
+// An orbit seen from a station, with what is worked out once for all its predictions: the orbit's rates, and the potential at the
+// receiver.
+pub struct Sight {
+    pub station: Station,
+    pub e: Elements,
+    pub k: Rates,
+    pub u_rec: f64,
+}
 
 pub fn dot(ax: f64, ay: f64, az: f64, bx: f64, by: f64, bz: f64) -> f64
     ensures { λ r. ⌜ r ≡ dotOf ax ay az bx by bz ⌝ }
@@ -73,67 +89,53 @@ pub fn received(s: State, rec: Vec3, u_rec: f64, near: f64, bias: f64, center_fr
     f_obs - center_freq + bias
 }
 
-// The inner prediction: rates of the orbit, rotation at t_obs and potential at the receiver are
-// worked out before.
-pub fn predict(
-    e: Elements,
-    k: Rates,
-    epoch: Instant,
-    t_obs: Instant,
-    turn: SinCos,
-    dt: f64,
-    near: f64,
-    bias: f64,
-    center_freq: f64,
-    rec: Vec3,
-    u_rec: f64,
-) -> Prediction
-    requires { ⌜ Sound (epoch .secs) (epoch .nanos) × Sound («t_obs» .secs) («t_obs» .nanos) ⌝ }
-    ensures { λ r. ⌜ r ≡ predictedAt e k (nanosOf (epoch .secs) (epoch .nanos)) (nanosOf («t_obs» .secs) («t_obs» .nanos)) turn dt near bias «center_freq» rec «u_rec» ⌝ }
+pub fn sight_of(g: Station, e: Elements) -> Sight
+    ensures { λ r. ⌜ r ≡ sightOf g e ⌝ }
 {
+    let k = crate::rates_of(e);
+    let u_rec = potential(g.rec_ecef);
+    Sight {
+        station: g,
+        e,
+        k,
+        u_rec,
+    }
+}
+
+// The inner prediction: what depends on the orbit and the station alone, and the rotation at t_obs, are worked out before.
+pub fn predict(v: Sight, t_obs: Instant, turn: SinCos, dt: f64, near: f64, bias: f64) -> Prediction
+    requires { ⌜ Sound (v .station .epoch .secs) (v .station .epoch .nanos) × Sound («t_obs» .secs) («t_obs» .nanos) ⌝ }
+    ensures { λ r. ⌜ r ≡ predictedAt v (nanosOf («t_obs» .secs) («t_obs» .nanos)) turn dt near bias ⌝ }
+{
+    let epoch = v.station.epoch;
     let t_adj = moment::time::moved_micros(t_obs, dt * 1000000.0);
     if moment::time::over(t_adj) {
         return Prediction::Refused(refusal::FAR_MOMENT);
     }
-    let first = crate::propagate(e, k, moment::time::tau(t_adj, epoch), turn);
+    let first = crate::propagate(v.e, v.k, moment::time::tau(t_adj, epoch), turn);
     let t_corr = moment::time::moved_nanos(t_adj, drift(first));
     if moment::time::over(t_corr) {
         return Prediction::Refused(refusal::FAR_MOMENT);
     }
-    let s = crate::propagate(e, k, moment::time::tau(t_corr, epoch), turn);
-    Prediction::Frequency(received(s, rec, u_rec, near, bias, center_freq))
+    let s = crate::propagate(v.e, v.k, moment::time::tau(t_corr, epoch), turn);
+    Prediction::Frequency(received(
+        s,
+        v.station.rec_ecef,
+        v.u_rec,
+        near,
+        bias,
+        v.station.center_freq,
+    ))
 }
 
 // A prediction with nothing worked out before.
-fn predict_at(
-    e: Elements,
-    epoch: Instant,
-    t_obs: Instant,
-    dt: f64,
-    near: f64,
-    bias: f64,
-    center_freq: f64,
-    rec: Vec3,
-) -> Prediction
-    requires { ⌜ Within 0 (epoch .secs) (epoch .nanos) × Within 0 («t_obs» .secs) («t_obs» .nanos) ⌝ }
-    ensures { λ r. ⌜ r ≡ predictedOf (e .a) (e .i) (e .raan0) (e .u0) (nanosOf (epoch .secs) (epoch .nanos)) (nanosOf («t_obs» .secs) («t_obs» .nanos)) (turnAt («t_obs» .secs) («t_obs» .nanos)) dt near bias «center_freq» rec ⌝ }
+fn predict_at(g: Station, e: Elements, t_obs: Instant, dt: f64, near: f64, bias: f64) -> Prediction
+    requires { ⌜ Within 0 (g .epoch .secs) (g .epoch .nanos) × Within 0 («t_obs» .secs) («t_obs» .nanos) ⌝ }
+    ensures { λ r. ⌜ r ≡ predictedOf g e (nanosOf («t_obs» .secs) («t_obs» .nanos)) (turnAt («t_obs» .secs) («t_obs» .nanos)) dt near bias ⌝ }
 {
     let turn = frame::rotation(frame::jd_at(t_obs));
-    let k = crate::rates_of(e);
-    let u_rec = potential(rec);
-    predict(
-        e,
-        k,
-        epoch,
-        t_obs,
-        turn,
-        dt,
-        near,
-        bias,
-        center_freq,
-        rec,
-        u_rec,
-    )
+    let v = sight_of(g, e);
+    predict(v, t_obs, turn, dt, near, bias)
 }
 
 pub fn predict_frequency(
@@ -156,16 +158,12 @@ pub fn predict_frequency(
     let Given::At(t) = moment::instant_of(t_obs) else {
         return Prediction::Refused(refusal::MOMENT_RANGE);
     };
-    predict_at(
-        Elements { a, i, raan0, u0 },
-        from,
-        t,
-        dt,
-        df,
-        df,
+    let g = Station {
+        epoch: from,
         center_freq,
         rec_ecef,
-    )
+    };
+    predict_at(g, Elements { a, i, raan0, u0 }, t, dt, df, df)
 }
 
 // The bias at so many seconds.
@@ -201,14 +199,10 @@ pub fn predict_frequency_poly(
     };
     let near = df_poly.0;
     let bias = bias_at(df_poly, moment::time::tau_millis(t, since));
-    predict_at(
-        Elements { a, i, raan0, u0 },
-        from,
-        t,
-        dt,
-        near,
-        bias,
+    let g = Station {
+        epoch: from,
         center_freq,
         rec_ecef,
-    )
+    };
+    predict_at(g, Elements { a, i, raan0, u0 }, t, dt, near, bias)
 }
