@@ -1,7 +1,7 @@
 pub mod Far
 pub mod Tables
 pub mod Fill
-pub mod Stage
+pub mod Stages
 pub mod Passes
 pub mod Refusals
 pub mod Theorems

@@ -1,20 +1,22 @@
 -- A pass's part of a set: its samples come in pairs and in range.
-use mathlib.Core.Path.{_≡_, sym, _∙_}
+use mathlib.Core.Path.{_≡_, refl, sym, _∙_}
 use mathlib.Core.List.{List}
 use Prim.Native.Nat.{ℕ, _+_, _-_, _≤_, _<_}
 use native.Mathlib.Omega.{arith}
 use lib.IntN.{ℤ, pos}
 use lib.ListN.{length, take, drop, set}
 use lib.Ieee.{Float}
-use Rattle.moment.specs.declared.Instant.{Instant}
+use Rattle.moment.specs.Range.{Within}
 use Rattle.moment.specs.Sample.{Timed, sinceOf}
 use Rattle.pass_set.specs.PassSet.{countOf, startOf, passOf, total, AtPass}
 use Rattle.pass_set.proofs.Laws.{start-fits, pass-part, pass-length, pass-at}
 use Rattle.orbit.specs.declared.Elements.{Elements}
-use Rattle.frame.specs.declared.Vec3.{Vec3}
-use Rattle.approach.specs.Sums.{passSumOf, passAddOf}
-use Rattle.approach.specs.Pca.{predPcaTime, putPcaOf}
-use Rattle.approach.specs.Turns.{Samples, PassSet, Windowed, Sampled}
+use Rattle.orbit.specs.declared.doppler.Station.{Station}
+use Rattle.orbit.specs.declared.doppler.Sight.{Sight}
+use Rattle.orbit.specs.Doppler.{sightOf}
+use Rattle.approach.specs.Sums.{passSumOf, passAddOf, rssOf}
+use Rattle.approach.specs.Pca.{predPcaTime, putPcaOf, pcaTimesOf}
+use Rattle.approach.specs.Turns.{Seen, Samples, PassSet, Windowed, Sampled}
 
 pass-timed : {counts : List ℕ} {times : List ℤ} {freqs centers : List Float} (p : ℕ) → PassSet counts times freqs centers → p < length counts → Timed (passOf counts p times)
 pass-timed {counts} {times} {freqs} {centers} p s h =
@@ -46,18 +48,18 @@ pub part-samples : {counts : List ℕ} {times : List ℤ} {freqs centers : List 
 part-samples {times = times} {freqs = freqs} {p = p} s h a = rw (pass-part times a, pass-part freqs a) (pass-samples p s h)
 
 -- the sum of the part from k on is pass p's
-pub part-added : (e : Elements) (epoch : Instant) (rec : Vec3) (first center : Float) (counts : List ℕ) (times : List ℤ) (freqs : List Float) (sum r : Float) {p k : ℕ} → AtPass counts p k
-    → r ≡ passSumOf e epoch rec first center (take (k + countOf counts p - k) (drop k times)) (take (k + countOf counts p - k) (drop k freqs)) sum
-    → r ≡ passAddOf e epoch rec first center counts times freqs p sum
+pub part-added : (g : Station) (e : Elements) (first : Float) (counts : List ℕ) (times : List ℤ) (freqs : List Float) (sum r : Float) {p k : ℕ} → AtPass counts p k
+    → r ≡ passSumOf g e first (take (k + countOf counts p - k) (drop k times)) (take (k + countOf counts p - k) (drop k freqs)) sum
+    → r ≡ passAddOf g e first counts times freqs p sum
 unfolding passAddOf
-part-added e epoch rec first center counts times freqs sum r a q = rw (pass-part times a, pass-part freqs a) at q
+part-added g e first counts times freqs sum r a q = rw (pass-part times a, pass-part freqs a) at q
 
 -- and so is its closest moment
-pub part-put : (e : Elements) (epoch : Instant) (rec : Vec3) (first : Float) (counts : List ℕ) (times : List ℤ) (freqs : List Float) (out r : List ℤ) {p k : ℕ} → AtPass counts p k
-    → r ≡ set out p (sinceOf (predPcaTime e epoch rec first (take (k + countOf counts p - k) (drop k times)) (take (k + countOf counts p - k) (drop k freqs))))
-    → r ≡ putPcaOf e epoch rec first counts times freqs p out
+pub part-put : (g : Station) (e : Elements) (first : Float) (counts : List ℕ) (times : List ℤ) (freqs : List Float) (out r : List ℤ) {p k : ℕ} → AtPass counts p k
+    → r ≡ set out p (sinceOf (predPcaTime g e first (take (k + countOf counts p - k) (drop k times)) (take (k + countOf counts p - k) (drop k freqs))))
+    → r ≡ putPcaOf g e first counts times freqs p out
 unfolding putPcaOf
-part-put e epoch rec first counts times freqs out r a q = rw (pass-part times a, pass-part freqs a) at q
+part-put g e first counts times freqs out r a q = rw (pass-part times a, pass-part freqs a) at q
 
 -- and so are its parts of a table
 pub part-windowed : {table : List Float} {at : ℕ} {first : Float} {counts : List ℕ} (times : List ℤ) (freqs : List Float) {p k : ℕ} → AtPass counts p k
@@ -68,3 +70,19 @@ part-windowed times freqs a w = rw (pass-part times a, pass-part freqs a) w
 pub part-sampled : {table : List Float} {at : ℕ} {counts : List ℕ} (times : List ℤ) {p k : ℕ} → AtPass counts p k
     → Sampled table at (passOf counts p times) → Sampled table at (take (k + countOf counts p - k) (drop k times))
 part-sampled times a w = rw (pass-part times a) w
+
+-- ---- an orbit seen from a station
+
+module _ (g : Station) (e : Elements) (v : Sight) (is : v ≡ sightOf g e) where
+  pub seen : Within 0 (g .epoch .secs) (g .epoch .nanos) → Seen v
+  unfolding sightOf
+  seen w = rw is record { is = refl; within = w }
+
+  pub seen-rss : (counts : List ℕ) (times : List ℤ) (freqs centers : List Float) (r : Float) → r ≡ rssOf (v .station) (v .e) counts times freqs centers → r ≡ rssOf g e counts times freqs centers
+  unfolding sightOf
+  seen-rss counts times freqs centers r q = rw is at q
+
+  pub seen-pcas : (counts : List ℕ) (times : List ℤ) (freqs centers : List Float) (out r : List ℤ) → r ≡ pcaTimesOf (v .station) (v .e) counts times freqs centers out
+      → r ≡ pcaTimesOf g e counts times freqs centers out
+  unfolding sightOf
+  seen-pcas counts times freqs centers out r q = rw is at q

@@ -1,5 +1,5 @@
 -- What the refusal lists say. Assumes nothing.
-use mathlib.Core.Path.{_≡_, refl, sym, _∙_}
+use mathlib.Core.Path.{_≡_, refl, sym, ap, _∙_}
 use mathlib.Core.Bool.{Bool, true, false, not}
 use mathlib.Core.List.{List, [], _∷_}
 use Prim.Native.Nat.{ℕ, zero, suc}
@@ -20,11 +20,14 @@ use Rattle.moment.proofs.Ranges.{at-is, outside}
 use Rattle.moment.proofs.Samples.{timed}
 use Rattle.pass_set.specs.PassSet.{sizesAgree}
 use Rattle.pass_set.proofs.Laws as set
+use Rattle.frame.specs.declared.Vec3.{Vec3}
+use Rattle.orbit.specs.declared.doppler.Station.{Station}
+use Rattle.orbit.specs.Doppler.{stationAt}
 use Rattle.approach.specs.declared.Rss.{Rss}
 use Rattle.approach.specs.declared.Gradient.{Gradient}
 use Rattle.approach.specs.declared.Gradients.{Gradients}
 use Rattle.approach.specs.Turns.{PassSet}
-use Rattle.approach.specs.Answers.{setRefusalOf, refusalOf, pcaRefusalOf, epochOf, written, rssAnswer, noGradient, gradientAnswer}
+use Rattle.approach.specs.Answers.{setRefusalOf, refusalOf, pcaRefusalOf, written, rssAnswer, noGradient, gradientAnswer}
 
 -- ---- a pass set
 
@@ -81,11 +84,12 @@ module _ (epoch : Moment) (counts : List ℕ) (times : List ℤ) (freqs centers 
         simp (at-is (epoch .seconds) (epoch .nanos) i g .yes)
         (last-of (not (timesInRange times)) (not (sizesAgree counts (length times) (length freqs) (length centers))) (ltb room (length counts)) m (sym z ∙ e) h)
 
--- the epoch as the inner functions count it
-pub epoch-is : (epoch : Moment) (i : Instant) → At i ≡ givenOf (epoch .seconds) (epoch .nanos) → i ≡ epochOf epoch
-epoch-is epoch i g =
+-- the station as the inner functions have it
+pub station-is : (epoch : Moment) (centre : Float) (p : Vec3) (i : Instant) → At i ≡ givenOf (epoch .seconds) (epoch .nanos)
+    → _≡_ {A = Station} (record { epoch = i; «center_freq» = centre; «rec_ecef» = p }) (stationAt epoch centre p)
+station-is epoch centre p i g =
     let x = at-is (epoch .seconds) (epoch .nanos) i g in
-    both (x .secs-is) (x .nanos-is)
+    ap (λ (t : Instant). record { epoch = t; «center_freq» = centre; «rec_ecef» = p }) (both (x .secs-is) (x .nanos-is))
   where
     both : {a b c d : ℕ} → a ≡ b → c ≡ d → _≡_ {A = Instant} (record { secs = a; nanos = c }) (record { secs = b; nanos = d })
     both p q = cc

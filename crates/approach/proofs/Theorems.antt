@@ -10,11 +10,10 @@ use lib.ListN.{length, getD, set, length-set}
 use lib.Seq.{getD-set-same, getD-set-other}
 use lib.Ieee.{Float, nan}
 use Rattle.loops.proofs.Laws.{for-ind}
-use Rattle.moment.specs.declared.Instant.{Instant}
 use Rattle.moment.specs.Sample.{sinceOf}
 use Rattle.pass_set.specs.PassSet.{passOf}
 use Rattle.orbit.specs.declared.Elements.{Elements}
-use Rattle.frame.specs.declared.Vec3.{Vec3}
+use Rattle.orbit.specs.declared.doppler.Station.{Station}
 use Rattle.approach.specs.Pca.{predPcaTime, putPcaOf, pcaTimesOf}
 
 -- j places hold v, the others what they held in out
@@ -38,11 +37,11 @@ filled-more v out u j h f =
     }
 
 -- place p holds pass p's closest moment, and the places after the passes are as they were
-pub placed : (e : Elements) (epoch : Instant) (rec : Vec3) (counts : List ℕ) (times : List ℤ) (freqs centers : List Float) (out : List ℤ) → length counts ≤ length out
-    → Filled (λ p. sinceOf (predPcaTime e epoch rec (getD centers 0 nan) (passOf counts p times) (passOf counts p freqs))) out (length counts) (pcaTimesOf e epoch rec counts times freqs centers out)
+pub placed : (g : Station) (e : Elements) (counts : List ℕ) (times : List ℤ) (freqs centers : List Float) (out : List ℤ) → length counts ≤ length out
+    → Filled (λ p. sinceOf (predPcaTime g e (getD centers 0 nan) (passOf counts p times) (passOf counts p freqs))) out (length counts) (pcaTimesOf g e counts times freqs centers out)
 unfolding pcaTimesOf putPcaOf
-placed e epoch rec counts times freqs centers out room =
-    let v : ℕ → ℤ = λ p. sinceOf (predPcaTime e epoch rec (getD centers 0 nan) (passOf counts p times) (passOf counts p freqs)) in
-    for-ind (putPcaOf e epoch rec (getD centers 0 nan) counts times freqs) (Filled v out) 0 (length counts) out (omega arith)
+placed g e counts times freqs centers out room =
+    let v : ℕ → ℤ = λ p. sinceOf (predPcaTime g e (getD centers 0 nan) (passOf counts p times) (passOf counts p freqs)) in
+    for-ind (putPcaOf g e (getD centers 0 nan) counts times freqs) (Filled v out) 0 (length counts) out (omega arith)
     (record { same = refl; done = λ p l. absurd (omega arith); left = λ p l. refl })
-    (λ j u g l f. filled-more v out u j (omega arith) f)
+    (λ j u h l f. filled-more v out u j (omega arith) f)

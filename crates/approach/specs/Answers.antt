@@ -11,12 +11,11 @@ use Rattle.refusal.specs.Numbers.{moment-range, sizes, short-memory}
 use Rattle.refusal.specs.Order.{Refusal, _if_, first}
 use Rattle.float.specs.Ops.{bits}
 use Rattle.moment.specs.declared.Moment.{Moment}
-use Rattle.moment.specs.declared.Instant.{Instant}
-use Rattle.moment.specs.Time.{secondsOf}
 use Rattle.moment.specs.Range.{taken}
 use Rattle.moment.specs.Sample.{timesInRange}
 use Rattle.pass_set.specs.PassSet.{sizesAgree}
 use Rattle.frame.specs.declared.Vec3.{Vec3}
+use Rattle.orbit.specs.Doppler.{stationAt}
 use Rattle.approach.specs.declared.Rss.{Rss}
 use Rattle.approach.specs.declared.Gradient.{Gradient}
 use Rattle.approach.specs.declared.Gradients.{Gradients}
@@ -43,10 +42,6 @@ refusalOf epoch counts times freqs centers = first (inputRefusals epoch counts t
 unfoldable pub pcaRefusalOf : (epoch : Moment) (counts : List ℕ) (times : List ℤ) (freqs centers : List Float) (room : ℕ) → ℕ
 pcaRefusalOf epoch counts times freqs centers room = first (inputRefusals epoch counts times freqs centers ((short-memory if ltb room (length counts)) ∷ []))
 
--- the epoch as the inner functions count it
-abbrev pub epochOf : Moment → Instant
-epochOf m = record { secs = secondsOf (m .seconds); nanos = m .nanos }
-
 -- ---- answers: on a refusal zeros, and the output as it was
 
 abbrev pub written : ℕ → List ℤ → List ℤ → List ℤ
@@ -64,7 +59,7 @@ abbrev pub gradientAnswer : ℕ → Gradient → Gradients
 gradientAnswer zero g = record { refusal = 0; gradient = g }
 gradientAnswer (suc n) g = record { refusal = suc n; gradient = noGradient }
 
--- of get_pred_pca_times: the refusal's number or 0, and the output
+-- of get_pred_pca_times: the refusal's number or 0, and the output. No frequency is predicted, so that the station's centre is read by nothing
 pub record FindsPcas (a i raan u0 : Float) (epoch : Moment) (rec : Vec3) (counts : List ℕ) (times : List ℤ) (freqs centers : List Float) (out out′ : List ℤ) (r : ℕ) : Type 0 where
   pub answer : r ≡ pcaRefusalOf epoch counts times freqs centers (length out)
-  pub output : out′ ≡ written r (pcaTimesOf (record { a = a; i = i; raan0 = raan; u0 = u0 }) (epochOf epoch) rec counts times freqs centers out) out
+  pub output : out′ ≡ written r (pcaTimesOf (stationAt epoch (bits 0) rec) (record { a = a; i = i; raan0 = raan; u0 = u0 }) counts times freqs centers out) out

@@ -14,9 +14,9 @@ use Rattle.moment.specs.declared.Instant.{Instant}
 use Rattle.moment.specs.Time.{nanosOf, tauMillisOf}
 use Rattle.moment.specs.Sample.{instantAt}
 use Rattle.pass_set.specs.PassSet.{passOf}
-use Rattle.frame.specs.declared.Vec3.{Vec3}
 use Rattle.frame.specs.Rotation.{turnAt}
 use Rattle.orbit.specs.declared.Elements.{Elements}
+use Rattle.orbit.specs.declared.doppler.Station.{Station}
 use Rattle.orbit.specs.declared.doppler.Prediction.{Prediction}
 use Rattle.orbit.specs.declared.doppler.Prediction.the-variants.{Frequency, Refused}
 use Rattle.orbit.specs.Doppler.{predictedOf}
@@ -43,37 +43,36 @@ frequencyOf (Refused n) = nan
 pub record Shifted (r : Float) (p : Prediction) : Type 0 where
   pub is : Frequency r ≡ p
 
-module _ (e : Elements) (epoch : Instant) (rec : Vec3) where
+module _ (g : Station) (e : Elements) where
   -- what is predicted for the moment t, with no bias
-  unfoldable pub predictionAt : Float → Float → Instant → Prediction
-  predictionAt center dt t =
-      predictedOf (e .a) (e .i) (e .raan0) (e .u0) (nanosOf (epoch .secs) (epoch .nanos)) (nanosOf (t .secs) (t .nanos)) (turnAt (t .secs) (t .nanos)) dt (bits 0) (bits 0) center rec
+  unfoldable pub predictionAt : Float → Instant → Prediction
+  predictionAt dt t = predictedOf g e (nanosOf (t .secs) (t .nanos)) (turnAt (t .secs) (t .nanos)) dt (bits 0) (bits 0)
 
   -- sample k's: its frequency less centre and prediction, squared
-  unfoldable pub sampleOf : (center dt : Float) (times : List ℤ) (freqs : List Float) (k : ℕ) (rss : Float) → Float
-  sampleOf center dt times freqs k rss =
-      let diff = getD freqs k nan ⊖ (center ⊕ frequencyOf (predictionAt center dt (instantAt (getD times k (pos 0))))) in
+  unfoldable pub sampleOf : (dt : Float) (times : List ℤ) (freqs : List Float) (k : ℕ) (rss : Float) → Float
+  sampleOf dt times freqs k rss =
+      let diff = getD freqs k nan ⊖ (g .«center_freq» ⊕ frequencyOf (predictionAt dt (instantAt (getD times k (pos 0))))) in
       rss ⊕ diff ⊗ diff
 
-  unfoldable pub samplesOf : Float → Float → List ℤ → List Float → Float → Float
-  samplesOf center dt times freqs rss = for 0 (length freqs) (sampleOf center dt times freqs) rss
+  unfoldable pub samplesOf : Float → List ℤ → List Float → Float → Float
+  samplesOf dt times freqs rss = for 0 (length freqs) (sampleOf dt times freqs) rss
 
-  -- of one pass's samples: the seconds from the observed closest moment, by the centre, to the predicted, by the first pass's
-  unfoldable pub dtOf : Float → Float → List ℤ → List Float → Float
-  dtOf first center times freqs = secondsFrom (predPcaTime e epoch rec first times freqs) (obsPcaTime times freqs center)
+  -- of one pass's samples: the seconds from the observed closest moment, by the station's centre, to the predicted, by the first pass's
+  unfoldable pub dtOf : Float → List ℤ → List Float → Float
+  dtOf first times freqs = secondsFrom (predPcaTime g e first times freqs) (obsPcaTime times freqs (g .«center_freq»))
 
   -- 100 times its square, and each sample's
-  unfoldable pub passSumOf : Float → Float → List ℤ → List Float → Float → Float
-  passSumOf first center times freqs rss =
-      let dt = dtOf first center times freqs in
-      cond (eqb (length freqs) 0) rss (samplesOf center dt times freqs (rss ⊕ hundred ⊗ dt ⊗ dt))
+  unfoldable pub passSumOf : Float → List ℤ → List Float → Float → Float
+  passSumOf first times freqs rss =
+      let dt = dtOf first times freqs in
+      cond (eqb (length freqs) 0) rss (samplesOf dt times freqs (rss ⊕ hundred ⊗ dt ⊗ dt))
 
   -- of pass p of a set
-  unfoldable pub passAddOf : (first center : Float) (counts : List ℕ) (times : List ℤ) (freqs : List Float) (p : ℕ) (rss : Float) → Float
-  passAddOf first center counts times freqs p rss = passSumOf first center (passOf counts p times) (passOf counts p freqs) rss
+  unfoldable pub passAddOf : (first : Float) (counts : List ℕ) (times : List ℤ) (freqs : List Float) (p : ℕ) (rss : Float) → Float
+  passAddOf first counts times freqs p rss = passSumOf first (passOf counts p times) (passOf counts p freqs) rss
 
-  unfoldable pub rssOf : Float → List ℕ → List ℤ → List Float → List Float → Float
-  rssOf center counts times freqs centers = for 0 (length counts) (passAddOf (getD centers 0 nan) center counts times freqs) (bits 0)
+  unfoldable pub rssOf : List ℕ → List ℤ → List Float → List Float → Float
+  rssOf counts times freqs centers = for 0 (length counts) (passAddOf (getD centers 0 nan) counts times freqs) (bits 0)
 
 -- ---- the four differences
 
@@ -92,17 +91,12 @@ pub eps-bits : bits 0x3f1a36e2eb1c432d ≡ eps
 unfolding eps ofBits round
 eps-bits = refl
 
--- the sum by the orbit's numbers
-unfoldable pub rssAt : (counts : List ℕ) (times : List ℤ) (freqs centers : List Float) (rec : Vec3) (a i : Float) (epoch : Instant) (center raan0 u0 : Float) → Float
-rssAt counts times freqs centers rec a i epoch center raan0 u0 =
-    rssOf (record { a = a; i = i; raan0 = raan0; u0 = u0 }) epoch rec center counts times freqs centers
-
-unfoldable pub gradientOf : (counts : List ℕ) (times : List ℤ) (freqs centers : List Float) (rec : Vec3) (a i : Float) (epoch : Instant) (center raan0 u0 : Float) → Gradient
-gradientOf counts times freqs centers rec a i epoch center raan0 u0 =
-    let base = rssAt counts times freqs centers rec a i epoch center raan0 u0 in
+unfoldable pub gradientOf : (g : Station) (e : Elements) (counts : List ℕ) (times : List ℤ) (freqs centers : List Float) → Gradient
+gradientOf g e counts times freqs centers =
+    let sum : Elements → Float = λ o. rssOf g o counts times freqs centers in
     record {
-      «grad_a» = (rssAt counts times freqs centers rec (a ⊕ epsA) i epoch center raan0 u0 ⊖ base) ⊘ epsA;
-      «grad_i» = (rssAt counts times freqs centers rec a (i ⊕ eps) epoch center raan0 u0 ⊖ base) ⊘ eps;
-      «grad_raan» = (rssAt counts times freqs centers rec a i epoch center (raan0 ⊕ eps) u0 ⊖ base) ⊘ eps;
-      «grad_u0» = (rssAt counts times freqs centers rec a i epoch center raan0 (u0 ⊕ eps) ⊖ base) ⊘ eps;
+      «grad_a» = (sum (record { a = e .a ⊕ epsA; i = e .i; raan0 = e .raan0; u0 = e .u0 }) ⊖ sum e) ⊘ epsA;
+      «grad_i» = (sum (record { a = e .a; i = e .i ⊕ eps; raan0 = e .raan0; u0 = e .u0 }) ⊖ sum e) ⊘ eps;
+      «grad_raan» = (sum (record { a = e .a; i = e .i; raan0 = e .raan0 ⊕ eps; u0 = e .u0 }) ⊖ sum e) ⊘ eps;
+      «grad_u0» = (sum (record { a = e .a; i = e .i; raan0 = e .raan0; u0 = e .u0 ⊕ eps }) ⊖ sum e) ⊘ eps;
     }

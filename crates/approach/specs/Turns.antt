@@ -8,21 +8,22 @@ use Prim.Native.Nat.{ℕ, _+_, _-_, _*_, _≤_, _<_}
 use lib.IntN.{ℤ, pos}
 use lib.ListN.{length, getD, set}
 use lib.Ieee.{Float, nan}
+use Rattle.moment.specs.Origin.{perSecond, start1957, start2057}
 use Rattle.moment.specs.declared.Instant.{Instant}
 use Rattle.moment.specs.Time.{tauMillisOf}
 use Rattle.moment.specs.Range.{Within}
 use Rattle.moment.specs.Sample.{Timed, instantAt}
 use Rattle.pass_set.specs.PassSet.{Sizes, passOf}
 use Rattle.frame.specs.Rotation.{turnAt}
-use Rattle.orbit.specs.declared.Elements.{Elements}
-use Rattle.orbit.specs.declared.Rates.{Rates}
-use Rattle.orbit.specs.Orbit.{ratesOf}
+use Rattle.orbit.specs.declared.doppler.Sight.{Sight}
+use Rattle.orbit.specs.Doppler.{sightOf}
+use Rattle.approach.specs.declared.Stage.{Stage}
 use Rattle.approach.specs.Pca.{obsPcaTime}
 
--- of an orbit: its rates, and an epoch that passed refusal 4
-pub record Dated (e : Elements) (k : Rates) (epoch : Instant) : Type 0 where
-  pub rates : k ≡ ratesOf e
-  pub within : Within 0 (epoch .secs) (epoch .nanos)
+-- of an orbit seen from a station: what is worked out before, and an epoch that passed refusal 4
+pub record Seen (v : Sight) : Type 0 where
+  pub is : v ≡ sightOf (v .station) (v .e)
+  pub within : Within 0 (v .station .epoch .secs) (v .station .epoch .nanos)
 
 -- of one pass's samples
 pub record Samples (times : List ℤ) (freqs : List Float) : Type 0 where
@@ -43,16 +44,15 @@ pub record Shift (dt : Float) : Type 0 where
   pub after : to < from + 4000000000000000000
   pub before : from < to + 4000000000000000000
 
--- ---- a search around secs: n moments, step seconds apart, that reach half seconds to both sides and stay in the window, the
--- 1,244 s from base on
+-- ---- a search's stage around secs: its moments reach half seconds to both sides and stay in the window, the 1,244 s from base on
 
-pub record Around (base half step n secs nanos : ℕ) : Type 0 where
-  pub low : base + half ≤ secs
-  pub high : secs + half ≤ base + 1244
-  pub reach : step * n ≤ 2 * half + step
-  pub early : 17591775817216 ≤ base + 622
-  pub late : base + 622 < 17594931577216
-  pub part : nanos < 1000000000
+pub record Around (base : ℕ) (w : Stage) (secs nanos : ℕ) : Type 0 where
+  pub low : base + w .half ≤ secs
+  pub high : secs + w .half ≤ base + 1244
+  pub reach : w .step * w .n ≤ 2 * w .half + w .step
+  pub early : start1957 ≤ base + 622
+  pub late : base + 622 < start2057
+  pub part : nanos < perSecond
 
 -- secs is at most half seconds from mid
 pub record Beside (half mid secs : ℕ) : Type 0 where

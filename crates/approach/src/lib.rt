@@ -4,12 +4,14 @@ pub mod sums;
 pub mod turns;
 
 ghost use mathlib.Core.Path.{_≡_};
-ghost use Rattle.approach.specs.Sums.{rssAt, gradientOf};
-ghost use Rattle.approach.specs.Answers.{setRefusalOf, refusalOf, epochOf, FindsPcas, rssAnswer, gradientAnswer};
+ghost use Rattle.orbit.specs.Doppler.{stationAt};
+ghost use Rattle.approach.specs.Sums.{rssOf, gradientOf};
+ghost use Rattle.approach.specs.Answers.{setRefusalOf, refusalOf, FindsPcas, rssAnswer, gradientAnswer};
 use frame::Vec3;
 use moment::Given;
 use moment::Moment;
 use orbit::Elements;
+use orbit::doppler::Station;
 
 // A sum, or the number of a refusal.
 pub struct Rss {
@@ -41,6 +43,13 @@ pub struct Nearest {
 pub struct Closest {
     pub dist: f64,
     pub secs: u64,
+}
+
+// A stage of the search for the closest moment: n moments, step seconds apart, from half seconds before the best so far.
+pub struct Stage {
+    pub half: u64,
+    pub step: u64,
+    pub n: u64,
 }
 
 // The first of a pass set's refusals 4 and 5 that is due, or 0.
@@ -84,13 +93,18 @@ pub fn get_pred_pca_times(
     if out.len() < counts.len() {
         return refusal::SHORT_MEMORY;
     }
+    let g = Station {
+        epoch: t,
+        center_freq: 0.0,
+        rec_ecef,
+    };
     let e = Elements {
         a,
         i,
         raan0: raan,
         u0,
     };
-    pca::pca_times(e, t, rec_ecef, counts, times, freqs, centers, out);
+    pca::pca_times(g, e, counts, times, freqs, centers, out);
     0
 }
 
@@ -110,7 +124,7 @@ pub fn compute_rss(
     u0: f64,
 ) -> Rss
     ensures { λ r. ⌜ r ≡ rssAnswer (refusalOf epoch (now (counts .entry)) (now (times .entry)) (now (freqs .entry)) (now (centers .entry)))
-        (rssAt (now (counts .entry)) (now (times .entry)) (now (freqs .entry)) (now (centers .entry)) «rec_ecef» «initial_a» «initial_i» (epochOf epoch) «center_freq» raan0 u0) ⌝ }
+        (rssOf (stationAt epoch «center_freq» «rec_ecef») (record { a = «initial_a»; i = «initial_i»; raan0 = raan0; u0 = u0 }) (now (counts .entry)) (now (times .entry)) (now (freqs .entry)) (now (centers .entry))) ⌝ }
 {
     let Given::At(t) = moment::instant_of(epoch) else {
         return Rss {
@@ -122,20 +136,18 @@ pub fn compute_rss(
     if refusal != 0 {
         return Rss { refusal, rss: 0.0 };
     }
-    let rss = sums::rss_at(
-        counts,
-        times,
-        freqs,
-        centers,
-        &freqs[0..0],
-        rec_ecef,
-        initial_a,
-        initial_i,
-        t,
+    let g = Station {
+        epoch: t,
         center_freq,
+        rec_ecef,
+    };
+    let e = Elements {
+        a: initial_a,
+        i: initial_i,
         raan0,
         u0,
-    );
+    };
+    let rss = sums::rss(counts, times, freqs, centers, &freqs[0..0], g, e);
     Rss { refusal: 0, rss }
 }
 
@@ -154,7 +166,7 @@ pub fn compute_gradient(
     u0: f64,
 ) -> Gradients
     ensures { λ r. ⌜ r ≡ gradientAnswer (refusalOf epoch (now (counts .entry)) (now (times .entry)) (now (freqs .entry)) (now (centers .entry)))
-        (gradientOf (now (counts .entry)) (now (times .entry)) (now (freqs .entry)) (now (centers .entry)) «rec_ecef» a i (epochOf epoch) «center_freq» raan0 u0) ⌝ }
+        (gradientOf (stationAt epoch «center_freq» «rec_ecef») (record { a = a; i = i; raan0 = raan0; u0 = u0 }) (now (counts .entry)) (now (times .entry)) (now (freqs .entry)) (now (centers .entry))) ⌝ }
 {
     let zeros = Gradient {
         grad_a: 0.0,
@@ -175,20 +187,13 @@ pub fn compute_gradient(
             gradient: zeros,
         };
     }
-    let gradient = sums::gradient(
-        counts,
-        times,
-        freqs,
-        centers,
-        &freqs[0..0],
-        rec_ecef,
-        a,
-        i,
-        t,
+    let g = Station {
+        epoch: t,
         center_freq,
-        raan0,
-        u0,
-    );
+        rec_ecef,
+    };
+    let e = Elements { a, i, raan0, u0 };
+    let gradient = sums::gradient(counts, times, freqs, centers, &freqs[0..0], g, e);
     Gradients {
         refusal: 0,
         gradient,

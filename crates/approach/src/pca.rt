@@ -5,16 +5,17 @@ ghost use lib.ListN.{length, getD, set};
 ghost use lib.IntN.{pos};
 ghost use Rattle.moment.specs.Range.{Within};
 ghost use Rattle.moment.specs.Sample.{Timed, instantAt, sinceOf};
-ghost use Rattle.frame.specs.Rotation.{turnAt};
 ghost use Rattle.approach.specs.Pca.{nearerOf, obsPcaAt, obsPcaTime, squareOf, closerOf, searchedOf, closestOf, predPcaTime, pcaTimesOf};
-ghost use Rattle.approach.specs.Turns.{Dated, Samples, PassSet, Around, Beside, Window, Held, Windowed, window};
+ghost use Rattle.approach.specs.Turns.{Seen, Samples, PassSet, Around, Beside, Window, Held, Windowed, window};
 use crate::Closest;
 use crate::Nearest;
+use crate::Stage;
 use frame::State;
 use frame::Vec3;
 use moment::Instant;
 use orbit::Elements;
-use orbit::Rates;
+use orbit::doppler::Sight;
+use orbit::doppler::Station;
 
 fn nearer(freqs: &[f64], center: f64, k: usize, s: Nearest) -> Nearest
     requires { ⌜ (k < length (now freqs)) × (s .at < length (now freqs)) ⌝ }
@@ -67,24 +68,13 @@ fn square(s: State, rec: Vec3) -> f64
 }
 
 // By entry j of a table.
-fn closer(
-    e: Elements,
-    k: Rates,
-    epoch: Instant,
-    rec: Vec3,
-    table: &[f64],
-    j: usize,
-    t: Instant,
-    s: Closest,
-) -> Closest
-    requires { ⌜ Dated e k epoch × Within 622 (t .secs) (t .nanos) × Held (now table) j (t .secs) (t .nanos) ⌝ }
-    ensures { λ r. ⌜ r ≡ closerOf e epoch rec (t .nanos) (t .secs) s ⌝ }
+fn closer(v: Sight, table: &[f64], j: usize, t: Instant, s: Closest) -> Closest
+    requires { ⌜ Seen v × Within 622 (t .secs) (t .nanos) × Held (now table) j (t .secs) (t .nanos) ⌝ }
+    ensures { λ r. ⌜ r ≡ closerOf (v .station) (v .e) (t .nanos) (t .secs) s ⌝ }
 {
     let turn = crate::turns::turn_at(table, j, t);
-    let d = square(
-        orbit::propagate(e, k, moment::time::tau(t, epoch), turn),
-        rec,
-    );
+    let tau = moment::time::tau(t, v.station.epoch);
+    let d = square(orbit::propagate(v.e, v.k, tau, turn), v.station.rec_ecef);
     if d < s.dist {
         Closest {
             dist: d,
@@ -95,144 +85,113 @@ fn closer(
     }
 }
 
-// The closest of n moments, step seconds apart, from half seconds before the best so far, if it is below that one. The table's
-// entry `at` is for the second `base`.
+// The closest of a stage's moments, if it is below the best so far. The table's entry `at` is for the second `base`.
 fn search_around(
-    e: Elements,
-    k: Rates,
-    epoch: Instant,
-    rec: Vec3,
+    v: Sight,
     table: &[f64],
     at: usize,
     base: u64,
     nanos: u32,
-    half: u64,
-    step: u64,
-    n: u64,
+    stage: Stage,
     s: Closest,
 ) -> Closest
-    requires { ⌜ Dated e k epoch × Around base half step n (s .secs) nanos × Window (now table) at base nanos ⌝ }
-    ensures { λ r. ⌜ (r ≡ searchedOf e epoch rec nanos half step n s) × Beside half (s .secs) (r .secs) ⌝ }
+    requires { ⌜ Seen v × Around base stage (s .secs) nanos × Window (now table) at base nanos ⌝ }
+    ensures { λ r. ⌜ (r ≡ searchedOf (v .station) (v .e) nanos stage s) × Beside (stage .half) (s .secs) (r .secs) ⌝ }
 {
-    let start = s.secs - half;
+    let start = s.secs - stage.half;
     let mut best = s;
-    for m in 0..n {
-        let secs = start + step * m;
+    for m in 0..stage.n {
+        let secs = start + stage.step * m;
         let j = at + (secs - base) as usize;
-        best = closer(e, k, epoch, rec, table, j, Instant { secs, nanos }, best);
+        best = closer(v, table, j, Instant { secs, nanos }, best);
     }
     best
 }
 
 // Each stage starts from the best so far.
-fn closest(
-    e: Elements,
-    k: Rates,
-    epoch: Instant,
-    rec: Vec3,
-    table: &[f64],
-    at: usize,
-    t: Instant,
-) -> Instant
-    requires { ⌜ Dated e k epoch × Within 0 (t .secs) (t .nanos) × Window (now table) at (window t) (t .nanos) ⌝ }
-    ensures { λ r. ⌜ (r ≡ closestOf e epoch rec t) × Within 622 (r .secs) (r .nanos) ⌝ }
+fn closest(v: Sight, table: &[f64], at: usize, t: Instant) -> Instant
+    requires { ⌜ Seen v × Within 0 (t .secs) (t .nanos) × Window (now table) at (window t) (t .nanos) ⌝ }
+    ensures { λ r. ⌜ (r ≡ closestOf (v .station) (v .e) t) × Within 622 (r .secs) (r .nanos) ⌝ }
 {
     let nanos = t.nanos;
     let base = t.secs - crate::turns::REACH;
-    let s = Closest {
+    let mut best = Closest {
         dist: float::MAX,
         secs: t.secs,
     };
-    let coarse = search_around(e, k, epoch, rec, table, at, base, nanos, 600, 20, 61, s);
-    let medium = search_around(e, k, epoch, rec, table, at, base, nanos, 20, 2, 21, coarse);
-    let fine = search_around(e, k, epoch, rec, table, at, base, nanos, 2, 1, 5, medium);
+    let coarse = Stage {
+        half: 600,
+        step: 20,
+        n: 61,
+    };
+    let medium = Stage {
+        half: 20,
+        step: 2,
+        n: 21,
+    };
+    let fine = Stage {
+        half: 2,
+        step: 1,
+        n: 5,
+    };
+    best = search_around(v, table, at, base, nanos, coarse, best);
+    best = search_around(v, table, at, base, nanos, medium, best);
+    best = search_around(v, table, at, base, nanos, fine, best);
     Instant {
-        secs: fine.secs,
+        secs: best.secs,
         nanos,
     }
 }
 
-// The predicted closest moment of one pass, by its sample closest to the centre; an empty pass gives the epoch.
+// The predicted closest moment of one pass, by its sample closest to the centre `first`; an empty pass gives the epoch.
 pub fn pred_pca_time(
-    e: Elements,
-    k: Rates,
-    epoch: Instant,
-    rec: Vec3,
-    center: f64,
+    v: Sight,
+    first: f64,
     table: &[f64],
     at: usize,
     times: &[i64],
     freqs: &[f64],
 ) -> Instant
-    requires { ⌜ Dated e k epoch × Samples (now times) (now freqs) × Windowed (now table) at center (now times) (now freqs) ⌝ }
-    ensures { λ r. ⌜ (r ≡ predPcaTime e epoch rec center (now (times .entry)) (now (freqs .entry))) × Within 622 (r .secs) (r .nanos) ⌝ }
+    requires { ⌜ Seen v × Samples (now times) (now freqs) × Windowed (now table) at first (now times) (now freqs) ⌝ }
+    ensures { λ r. ⌜ (r ≡ predPcaTime (v .station) (v .e) first (now (times .entry)) (now (freqs .entry))) × Within 622 (r .secs) (r .nanos) ⌝ }
 {
     if freqs.len() == 0 {
-        return epoch;
+        return v.station.epoch;
     }
-    closest(
-        e,
-        k,
-        epoch,
-        rec,
-        table,
-        at,
-        obs_pca_time(times, freqs, center),
-    )
+    closest(v, table, at, obs_pca_time(times, freqs, first))
 }
 
 // The same into place p of out, in nanoseconds since 1970, with no table.
-fn put_pca(
-    e: Elements,
-    k: Rates,
-    epoch: Instant,
-    rec: Vec3,
-    center: f64,
-    times: &[i64],
-    freqs: &[f64],
-    out: &mut [i64],
-    p: usize,
-)
-    requires { ⌜ Dated e k epoch × Samples (now times) (now freqs) × (p < length (now out)) ⌝ }
-    ensures { λ _. ⌜ now (out .exit) ≡ set (now (out .entry)) p (sinceOf (predPcaTime e epoch rec center (now (times .entry)) (now (freqs .entry)))) ⌝ }
+fn put_pca(v: Sight, first: f64, times: &[i64], freqs: &[f64], out: &mut [i64], p: usize)
+    requires { ⌜ Seen v × Samples (now times) (now freqs) × (p < length (now out)) ⌝ }
+    ensures { λ _. ⌜ now (out .exit) ≡ set (now (out .entry)) p (sinceOf (predPcaTime (v .station) (v .e) first (now (times .entry)) (now (freqs .entry)))) ⌝ }
 {
-    let t = pred_pca_time(e, k, epoch, rec, center, &freqs[0..0], 0, times, freqs);
+    let t = pred_pca_time(v, first, &freqs[0..0], 0, times, freqs);
     out[p] = moment::sample::to_nanos(t);
 }
 
 // The predicted closest moments of a pass set, one per pass.
 pub fn pca_times(
+    g: Station,
     e: Elements,
-    epoch: Instant,
-    rec: Vec3,
     counts: &[u32],
     times: &[i64],
     freqs: &[f64],
     centers: &[f64],
     out: &mut [i64],
 )
-    requires { ⌜ Within 0 (epoch .secs) (epoch .nanos) × PassSet (now counts) (now times) (now freqs) (now centers) × (length (now counts) ≤ length (now out)) ⌝ }
-    ensures { λ _. ⌜ now (out .exit) ≡ pcaTimesOf e epoch rec (now (counts .entry)) (now (times .entry)) (now (freqs .entry)) (now (centers .entry)) (now (out .entry)) ⌝ }
+    requires { ⌜ Within 0 (g .epoch .secs) (g .epoch .nanos) × PassSet (now counts) (now times) (now freqs) (now centers) × (length (now counts) ≤ length (now out)) ⌝ }
+    ensures { λ _. ⌜ now (out .exit) ≡ pcaTimesOf g e (now (counts .entry)) (now (times .entry)) (now (freqs .entry)) (now (centers .entry)) (now (out .entry)) ⌝ }
 {
     if counts.len() == 0 {
         return;
     }
-    let rates = orbit::rates_of(e);
+    let v = orbit::doppler::sight_of(g, e);
     let first = centers[0];
     let mut k = 0usize;
     for p in 0..counts.len() {
         let end = k + counts[p] as usize;
-        put_pca(
-            e,
-            rates,
-            epoch,
-            rec,
-            first,
-            &times[k..end],
-            &freqs[k..end],
-            out,
-            p,
-        );
+        put_pca(v, first, &times[k..end], &freqs[k..end], out, p);
         k = end;
     }
 }

@@ -3,7 +3,7 @@ use mathlib.Core.Path.{refl, sym, _∙_}
 use borrow.Author.Needs.{needs}
 use Rattle.moment.proofs.Ranges.{at-is}
 use Rattle.approach.proofs.Tables.{no-table}
-use Rattle.approach.proofs.Refusals.{accepted-set, epoch-out, epoch-in, epoch-is, gradient-refused}
+use Rattle.approach.proofs.Refusals.{accepted-set, epoch-out, epoch-in, station-is, gradient-refused}
 use Rattle.approach.proofs.compute_gradient.Statement.{statement}
 use Rattle.approach.proofs.compute_gradient.Tie as tie
 
@@ -38,7 +38,7 @@ returns-3 c =
     let i = t .before .before in
     let a = i .before .before .before .before .args in
     let g = sym (t .t .given .1) ∙ i .instant-of .ensures in
-    simp (sym (epoch-in (a .epoch) _ _ _ _ _ g) ∙ sym (r .set-refusal .ensures) ∙ l .if1 .left, c .gradient .ensures, epoch-is (a .epoch) _ g)
+    simp (sym (epoch-in (a .epoch) _ _ _ _ _ g) ∙ sym (r .set-refusal .ensures) ∙ l .if1 .left, c .gradient .ensures, station-is (a .epoch) (a .center-freq) (a .rec-ecef) _ g)
 
 pub compute-gradient-spec : {M : Type 1} → statement M
 compute-gradient-spec =

@@ -3,7 +3,7 @@ use mathlib.Core.Path.{refl, sym, _∙_}
 use borrow.Author.Needs.{needs}
 use Rattle.moment.proofs.Ranges.{at-is}
 use Rattle.approach.proofs.Tables.{no-table}
-use Rattle.approach.proofs.Refusals.{accepted-set, epoch-out, epoch-in, epoch-is, rss-refused}
+use Rattle.approach.proofs.Refusals.{accepted-set, epoch-out, epoch-in, station-is, rss-refused}
 use Rattle.approach.proofs.compute_rss.Statement.{statement}
 use Rattle.approach.proofs.compute_rss.Tie as tie
 
@@ -21,8 +21,8 @@ returns-2 c =
     let a = i .before .before .before .before .args in
     rw (← r .set-refusal .ensures ∙ epoch-in (a .epoch) _ _ _ _ _ (sym (t .t .given .1) ∙ i .instant-of .ensures)) (rss-refused _ _ (c .if1 .taken))
 
-rss-at-requires : tie.Need-rss-at-requires
-rss-at-requires c κs =
+rss-requires : tie.Need-rss-requires
+rss-requires c κs =
     let l = c .before in
     let r = l .before in
     let t = r .before .before in
@@ -38,7 +38,7 @@ returns-3 c =
     let i = t .before .before in
     let a = i .before .before .before .before .args in
     let g = sym (t .t .given .1) ∙ i .instant-of .ensures in
-    simp (sym (epoch-in (a .epoch) _ _ _ _ _ g) ∙ sym (r .set-refusal .ensures) ∙ l .if1 .left, c .rss-at .ensures, epoch-is (a .epoch) _ g)
+    simp (sym (epoch-in (a .epoch) _ _ _ _ _ g) ∙ sym (r .set-refusal .ensures) ∙ l .if1 .left, c .rss .ensures, station-is (a .epoch) (a .center-freq) (a .rec-ecef) _ g)
 
 pub compute-rss-spec : {M : Type 1} → statement M
 compute-rss-spec =
@@ -53,5 +53,5 @@ compute-rss-spec =
     (λ c. search needs)
     (λ c. search needs)
     (λ c. search needs)
-    rss-at-requires
+    rss-requires
     returns-3)

@@ -3,7 +3,7 @@ use mathlib.Core.Path.{sym, _∙_}
 use borrow.Author.Needs.{needs}
 use borrow.Author.Tests.{lt-ltb, le-ltb}
 use Rattle.moment.proofs.Ranges.{at-is}
-use Rattle.approach.proofs.Refusals.{accepted-set, pca-epoch-out, pca-refused, pca-room, epoch-is, kept}
+use Rattle.approach.proofs.Refusals.{accepted-set, pca-epoch-out, pca-refused, pca-room, station-is, kept}
 use Rattle.approach.proofs.get_pred_pca_times.Statement.{statement}
 use Rattle.approach.proofs.get_pred_pca_times.Tie as tie
 
@@ -57,7 +57,7 @@ returns-4 c =
     let g = sym (t .t .given .1) ∙ i .instant-of .ensures in
     record {
       answer = pca-room (a .epoch) _ _ _ _ _ g _ _ 0 (r .set-refusal .ensures) (l .if1 .left) (rw (le-ltb _ _ (m .if2 .left)));
-      output = rw (epoch-is (a .epoch) _ g) at (p .pca-times .ensures);
+      output = rw (station-is (a .epoch) _ (a .rec-ecef) _ g) at (p .pca-times .ensures);
     }
 
 pub get-pred-pca-times-spec : {M : Type 1} → statement M

@@ -2,7 +2,7 @@
 use borrow.Author.Needs.{needs}
 use lib.Dec.{lit≤}
 use Rattle.moment.proofs.Samples.{within-sound}
-use Rattle.approach.proofs.Stage.{closer-taken, closer-left}
+use Rattle.approach.proofs.Stages.{closer-taken, closer-left}
 use Rattle.approach.proofs.pca.closer.Statement.{statement}
 use Rattle.approach.proofs.pca.closer.Tie as tie
 
@@ -15,7 +15,7 @@ returns c =
     let p = q .before in
     let t = p .before in
     let r = t .before in
-    closer-taken _ _ _ _ _ _ _ _ _ _ _ (r .before .before .pre .0) (r .turn-at .ensures) (t .tau .ensures) (p .propagate .ensures) (q .square .ensures) (c .if1 .taken)
+    closer-taken _ _ _ _ _ _ _ _ (r .before .before .pre .0) (r .turn-at .ensures) (t .tau .ensures) (p .propagate .ensures) (q .square .ensures) (c .if1 .taken)
 
 returns-2 : tie.Need-returns-2
 returns-2 c =
@@ -23,7 +23,7 @@ returns-2 c =
     let p = q .before in
     let t = p .before in
     let r = t .before in
-    closer-left _ _ _ _ _ _ _ _ _ _ _ (r .before .before .pre .0) (r .turn-at .ensures) (t .tau .ensures) (p .propagate .ensures) (q .square .ensures) (c .if1 .left)
+    closer-left _ _ _ _ _ _ _ _ (r .before .before .pre .0) (r .turn-at .ensures) (t .tau .ensures) (p .propagate .ensures) (q .square .ensures) (c .if1 .left)
 
 pub closer-spec : {M : Type 1} → statement M
 closer-spec =

@@ -6,19 +6,20 @@ use lib.ListN.{length, length-set}
 use Rattle.loops.proofs.Laws.{Left, begins, again, ends, loops}
 use Rattle.pass_set.specs.PassSet.{AtPass}
 use Rattle.pass_set.proofs.Laws.{first-pass, next-pass, pass-fits}
-use Rattle.approach.specs.Turns.{Dated}
+use Rattle.approach.specs.Turns.{Seen}
 use Rattle.approach.specs.Pca.{putPcaOf, pcaTimesOf}
-use Rattle.approach.proofs.Passes.{part-samples, part-put}
+use Rattle.approach.proofs.Passes.{part-samples, part-put, seen, seen-pcas}
 use Rattle.approach.proofs.pca.pca_times.Statement.{statement}
 use Rattle.approach.proofs.pca.pca_times.Tie as tie
 
 abbrev Inv-loop : tie.InvT-loop
-Inv-loop e epoch rec counts times freqs centers out₀ rates first k₀ p₀ p-end out k p =
-    AtPass counts p k × (length out ≡ length out₀) × Left p (length counts) (putPcaOf e epoch rec first counts times freqs) out (pcaTimesOf e epoch rec counts times freqs centers out₀)
-    × Dated e rates epoch
+Inv-loop counts times freqs centers out₀ v first k₀ p₀ p-end out k p =
+    AtPass counts p k × (length out ≡ length out₀)
+    × Left p (length counts) (putPcaOf (v .station) (v .e) first counts times freqs) out (pcaTimesOf (v .station) (v .e) counts times freqs centers out₀)
+    × Seen v
 
 abbrev μ-loop : tie.MeasureT-loop
-μ-loop e epoch rec counts times freqs centers out₀ rates first k₀ p₀ p-end out k p = length counts - p
+μ-loop counts times freqs centers out₀ v first k₀ p₀ p-end out k p = length counts - p
 
 returns : tie.Need-returns Inv-loop μ-loop
 unfolding pcaTimesOf
@@ -27,8 +28,8 @@ returns c = ends (omega arith) (begins refl)
 loop-holds : tie.Need-loop-holds Inv-loop μ-loop
 unfolding pcaTimesOf
 loop-holds c =
-    let r = c .before in
-    (first-pass _, refl, begins refl, record { rates = r .rates-of .ensures; within = r .before .before .before .before .before .pre .0 })
+    let v = c .before in
+    (first-pass _, refl, begins refl, seen _ _ _ (v .sight-of .ensures) (v .before .before .before .before .before .pre .0))
 
 cast-end : tie.Need-cast-end Inv-loop μ-loop
 cast-end c = omega (arith, c .shared-slice-known5 .given (c .before .before .loop .p))
@@ -62,9 +63,14 @@ loop-again c =
     let h = t .before in (
       next-pass (t .loop-test .taken) (h .loop .inv .0),
       ap length (b .put-pca .ensures) ∙ simp length-set (h .loop .inv .1),
-      again (t .loop-test .taken) (h .loop .inv .2) (part-put _ _ _ _ _ _ _ _ _ (h .loop .inv .0) (b .put-pca .ensures)),
+      again (t .loop-test .taken) (h .loop .inv .2) (part-put _ _ _ _ _ _ _ _ (h .loop .inv .0) (b .put-pca .ensures)),
       h .loop .inv .3,
     )
+
+returns-2 : tie.Need-returns-2 Inv-loop μ-loop
+returns-2 c =
+    let h = c .before in
+    seen-pcas _ _ _ (h .before .before .sight-of .ensures) _ _ _ _ _ _ (ends (c .loop-test .left) (h .loop .inv .2))
 
 pub pca-times-spec : {M : Type 1} → statement M
 pca-times-spec =
@@ -93,4 +99,4 @@ pca-times-spec =
     (λ c. search loops)
     loop-again
     (λ c. search loops)
-    (λ c. search loops))
+    returns-2)

@@ -10,7 +10,7 @@ use Rattle.approach.proofs.pca.pred_pca_time.Tie as tie
 
 returns : tie.Need-returns
 unfolding predPcaTime
-returns c = (simp (eq-eqb _ _ (c .if1 .taken)), within-more (lit≤ tt) (c .before .before .before .pre .0 .within))
+returns c = let i = c .before in (simp (eq-eqb _ _ (i .if1 .taken)), within-more (lit≤ tt) (i .before .before .before .pre .0 .within))
 
 closest-requires : tie.Need-closest-requires
 closest-requires c κs =

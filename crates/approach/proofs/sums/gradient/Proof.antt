@@ -8,11 +8,11 @@ returns : tie.Need-returns
 unfolding gradientOf
 returns c =
     simp (
-      c .rss-at5 .ensures,
-      c .before .rss-at4 .ensures,
-      c .before .before .rss-at3 .ensures,
-      c .before .before .before .rss-at2 .ensures,
-      c .before .before .before .before .rss-at .ensures,
+      c .rss5 .ensures,
+      c .before .before .rss4 .ensures,
+      c .before .before .before .before .rss3 .ensures,
+      c .before .before .before .before .before .before .rss2 .ensures,
+      c .before .before .before .before .before .before .before .before .rss .ensures,
       epsA-bits,
       eps-bits,
     )

@@ -21,8 +21,8 @@ samples-requires c κs =
     let o = c .before in
     let q = o .before in
     let p = q .before .before .before .before .pre in (
-      (p .0 .0, shift _ _ (q .pred-pca-time .ensures .1) (within-more (lit≤ tt) (o .obs-pca-time .ensures .1)) (c .tau-millis .ensures), p .0 .1),
-      (p .1 .0, p .1 .2),
+      (p .0, shift _ _ (q .pred-pca-time .ensures .1) (within-more (lit≤ tt) (o .obs-pca-time .ensures .1)) (c .tau-millis .ensures)),
+      (p .1, p .3),
     )
 
 returns-2 : tie.Need-returns-2

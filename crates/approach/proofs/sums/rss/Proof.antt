@@ -1,40 +1,37 @@
 -- `rss` meets its contract. The passes begin where the counts before them end. Assumes nothing.
-use mathlib.Core.Path.{_≡_, refl}
+use mathlib.Core.Path.{refl}
 use Prim.Native.Nat.{_-_}
 use native.Mathlib.Omega.{arith}
 use lib.ListN.{length}
 use Rattle.loops.proofs.Laws.{Left, begins, again, ends, loops}
 use Rattle.pass_set.specs.PassSet.{AtPass}
 use Rattle.pass_set.proofs.Laws.{first-pass, next-pass, pass-fits}
-use Rattle.orbit.specs.Doppler.{potentialOf}
-use Rattle.approach.specs.Turns.{Dated}
+use Rattle.approach.specs.Turns.{Seen}
 use Rattle.approach.specs.Sums.{passAddOf, rssOf}
 use Rattle.approach.proofs.Tables.{pass-sampled}
-use Rattle.approach.proofs.Passes.{part-samples, part-added, part-windowed, part-sampled}
+use Rattle.approach.proofs.Passes.{part-samples, part-added, part-windowed, part-sampled, seen, seen-rss}
 use Rattle.approach.proofs.sums.rss.Statement.{statement}
 use Rattle.approach.proofs.sums.rss.Tie as tie
 
 abbrev Inv-loop : tie.InvT-loop
-Inv-loop e epoch rec center counts times freqs centers table sum₀ rates u-rec first from k₀ p₀ p-end sum k p =
-    AtPass counts p k × Left p (length counts) (passAddOf e epoch rec first center counts times freqs) sum (rssOf e epoch rec center counts times freqs centers)
-    × Dated e rates epoch × (u-rec ≡ potentialOf (rec .x) (rec .y) (rec .z))
+Inv-loop counts times freqs centers table sum₀ v first from k₀ p₀ p-end sum k p =
+    AtPass counts p k × Left p (length counts) (passAddOf (v .station) (v .e) first counts times freqs) sum (rssOf (v .station) (v .e) counts times freqs centers) × Seen v
 
 abbrev μ-loop : tie.MeasureT-loop
-μ-loop e epoch rec center counts times freqs centers table sum₀ rates u-rec first from k₀ p₀ p-end sum k p = length counts - p
+μ-loop counts times freqs centers table sum₀ v first from k₀ p₀ p-end sum k p = length counts - p
 
 returns : tie.Need-returns Inv-loop μ-loop
 unfolding rssOf
 returns c = ends (omega arith) (begins refl)
 
 mul-from : tie.Need-mul-from Inv-loop μ-loop
-mul-from c = let s = c .before .before .before .before .before .before .before .before .pre .1 .sizes in omega (arith, s .few)
+mul-from c = let s = c .before .before .before .before .before .before .before .pre .1 .sizes in omega (arith, s .few)
 
 loop-holds : tie.Need-loop-holds Inv-loop μ-loop
 unfolding rssOf
 loop-holds c =
-    let u = c .before in
-    let r = u .before in
-    (first-pass _, begins refl, record { rates = r .rates-of .ensures; within = r .before .before .before .before .before .before .pre .0 }, u .potential .ensures)
+    let v = c .before in
+    (first-pass _, begins refl, seen _ _ _ (v .sight-of .ensures) (v .before .before .before .before .before .before .pre .0))
 
 cast-end : tie.Need-cast-end Inv-loop μ-loop
 cast-end c = omega (arith, c .shared-slice-known6 .given (c .before .before .loop .p))
@@ -64,14 +61,12 @@ pass-sum-requires : tie.Need-pass-sum-requires Inv-loop μ-loop
 pass-sum-requires c κs =
     let t = c .before .before .before in
     let h = t .before in
-    let a = h .before .before .before .before .before .before .before .before .before in
+    let a = h .before .before .before .before .before .before .before .before in
     let i = h .loop .inv in (
-      (i .2, i .3),
-      (
-        part-samples (a .pre .1) (t .loop-test .taken) (i .0),
-        part-windowed _ _ (i .0) (a .pre .2 .windows (h .loop .p) (t .loop-test .taken)),
-        part-sampled _ (i .0) (pass-sampled _ _ _ _ _ _ (h .loop .p) _ (a .pre .1) (t .loop-test .taken) (i .0) (a .pre .2)),
-      ),
+      i .2,
+      part-samples (a .pre .1) (t .loop-test .taken) (i .0),
+      part-windowed _ _ (i .0) (a .pre .2 .windows (h .loop .p) (t .loop-test .taken)),
+      part-sampled _ (i .0) (pass-sampled _ _ _ _ _ _ (h .loop .p) _ (a .pre .1) (t .loop-test .taken) (i .0) (a .pre .2)),
     )
 
 loop-again : tie.Need-loop-again Inv-loop μ-loop
@@ -79,10 +74,12 @@ loop-again c =
     let t = c .before .before .before .before in
     let h = t .before in
     let i = h .loop .inv in
-    (next-pass (t .loop-test .taken) (i .0), again (t .loop-test .taken) (i .1) (part-added _ _ _ _ _ _ _ _ _ _ (i .0) (c .pass-sum .ensures)), i .2, i .3)
+    (next-pass (t .loop-test .taken) (i .0), again (t .loop-test .taken) (i .1) (part-added _ _ _ _ _ _ _ _ (i .0) (c .pass-sum .ensures)), i .2)
 
 returns-2 : tie.Need-returns-2 Inv-loop μ-loop
-returns-2 c = ends (c .loop-test .left) (c .before .loop .inv .1)
+returns-2 c =
+    let h = c .before in
+    seen-rss _ _ _ (h .before .before .sight-of .ensures) _ _ _ _ _ (ends (c .loop-test .left) (h .loop .inv .1))
 
 pub rss-spec : {M : Type 1} → statement M
 rss-spec =
@@ -91,7 +88,6 @@ rss-spec =
     Inv-loop
     μ-loop
     returns
-    (λ c κs. search loops)
     (λ c κs. search loops)
     (λ c. search loops)
     mul-from

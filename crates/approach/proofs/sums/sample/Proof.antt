@@ -1,6 +1,5 @@
 -- `sample` meets its contract. Assumes nothing.
 use mathlib.Core.Path.{ap}
-use native.Mathlib.Omega.{arith}
 use borrow.Author.Needs.{needs}
 use lib.IntN.{pos}
 use lib.ListN.{getD}
@@ -14,13 +13,13 @@ shift-at-requires c κs =
     let a = c .before .before .before .before in
     let p = a .pre in
     let m = c .moment-at .ensures in
-    (p .0, (m .1, held-moment (getD (a .args .times .now) (a .args .n) (pos 0)) (m .0) (p .1 .1 .each (a .args .n) (omega (arith, p .1 .0 .pairs, p .1 .2)))))
+    (p .0, (m .1, held-moment (getD (a .args .times .now) (a .args .n) (pos 0)) (m .0) (p .1 .2)))
 
 returns : tie.Need-returns
 unfolding sampleOf
-returns c = simp (ap frequencyOf (c .shift-at .ensures .is), c .before .moment-at .ensures .0)
+returns c = simp (ap frequencyOf (c .before .shift-at .ensures .is), c .before .before .moment-at .ensures .0)
 
 pub sample-spec : {M : Type 1} → statement M
 sample-spec =
     tie.close
-    (tie.spec (λ c. search needs) (λ c. search needs) (λ c κs. search needs) (λ c. search needs) shift-at-requires returns)
+    (tie.spec (λ c. search needs) (λ c. search needs) (λ c κs. search needs) shift-at-requires returns)

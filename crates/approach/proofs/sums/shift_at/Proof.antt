@@ -18,7 +18,7 @@ returns c =
     let q = c .before .before in
     let t = q .before in
     let p = t .before .before .pre in
-    absurd (not-refused _ _ _ _ _ _ _ _ _ (p .0 .0) (p .0 .2) (t .turn-at .ensures) (p .0 .1) (p .1 .0) _ (sym (c .enum-told .given .1) ∙ q .predict .ensures))
+    absurd (not-refused _ _ _ _ (p .0 .0) (t .turn-at .ensures) (p .0 .1) (p .1 .0) _ (sym (c .enum-told .given .1) ∙ q .predict .ensures))
 
 returns-2 : tie.Need-returns-2
 returns-2 c =
@@ -26,7 +26,7 @@ returns-2 c =
     let q = f .before .before in
     let t = q .before in
     let p = t .before .before .pre in
-    shifted _ _ _ _ _ _ _ _ _ (p .0 .0) (p .0 .2) (t .turn-at .ensures) _ (sym (f .f .given .1) ∙ q .predict .ensures)
+    shifted _ _ _ _ (p .0 .0) (t .turn-at .ensures) _ (sym (f .f .given .1) ∙ q .predict .ensures)
 
 pub shift-at-spec : {M : Type 1} → statement M
 shift-at-spec =

@@ -7,33 +7,38 @@ use native.Mathlib.Omega.{arith}
 use mathlib.Core.List.{List}
 use lib.Ieee.{Float, lt}
 use Rattle.float.specs.declared.trig.SinCos.{SinCos}
-use Rattle.moment.specs.declared.Instant.{Instant}
 use Rattle.moment.specs.Time.{nanosOf, tauOf}
 use Rattle.moment.specs.Range.{Within}
 use Rattle.frame.specs.declared.State.{State}
-use Rattle.frame.specs.declared.Vec3.{Vec3}
 use Rattle.frame.specs.Rotation.{turnAt}
 use Rattle.orbit.specs.declared.Elements.{Elements}
-use Rattle.orbit.specs.declared.Rates.{Rates}
-use Rattle.orbit.specs.Orbit.{propagatedOf}
+use Rattle.orbit.specs.declared.doppler.Station.{Station}
+use Rattle.orbit.specs.declared.doppler.Sight.{Sight}
+use Rattle.orbit.specs.Orbit.{ratesOf, propagatedOf}
+use Rattle.orbit.specs.Doppler.{epochCount, sightOf}
 use Rattle.orbit.proofs.Hoisted.{propagated-at}
 use Rattle.approach.specs.declared.Closest.{Closest}
+use Rattle.approach.specs.declared.Stage.{Stage}
 use Rattle.approach.specs.Pca.{squareOf, squareAt, closerOf}
-use Rattle.approach.specs.Turns.{Dated, Around, Beside, Held, Window}
+use Rattle.approach.specs.Turns.{Seen, Around, Beside, Held, Window}
 
 -- ---- one moment
 
-module _ (e : Elements) (k : Rates) (epoch : Instant) (rec : Vec3) (secs nanos : ℕ) (s : Closest) (turn : SinCos) (tau : Float) (st : State) (d : Float) (a : Dated e k epoch)
-    (h : turn ≡ turnAt secs nanos) (g : tau ≡ tauOf (nanosOf secs nanos) (nanosOf (epoch .secs) (epoch .nanos))) (p : st ≡ propagatedOf e k tau turn) (q : d ≡ squareOf st rec) where
-  square-is : d ≡ squareAt e epoch rec secs nanos
-  unfolding squareAt
-  square-is = rw (← g, ← h) (q ∙ ap (λ (x : State). squareOf x rec) (propagated-at e k tau turn st (a .rates) p))
+seen-rates : (v : Sight) → v ≡ sightOf (v .station) (v .e) → v .k ≡ ratesOf (v .e)
+unfolding sightOf
+seen-rates v h = ap (λ (x : Sight). x .k) h
 
-  pub closer-taken : lt d (s .dist) ≡ true → _≡_ {A = Closest} (record { dist = d; secs = secs }) (closerOf e epoch rec nanos secs s)
+module _ (v : Sight) (secs nanos : ℕ) (s : Closest) (turn : SinCos) (tau : Float) (st : State) (d : Float) (a : Seen v)
+    (h : turn ≡ turnAt secs nanos) (g : tau ≡ tauOf (nanosOf secs nanos) (epochCount (v .station))) (p : st ≡ propagatedOf (v .e) (v .k) tau turn) (q : d ≡ squareOf st (v .station .«rec_ecef»)) where
+  square-is : d ≡ squareAt (v .station) (v .e) secs nanos
+  unfolding squareAt
+  square-is = rw (← g, ← h) (q ∙ ap (λ (x : State). squareOf x (v .station .«rec_ecef»)) (propagated-at (v .e) (v .k) tau turn st (seen-rates v (a .is)) p))
+
+  pub closer-taken : lt d (s .dist) ≡ true → _≡_ {A = Closest} (record { dist = d; secs = secs }) (closerOf (v .station) (v .e) nanos secs s)
   unfolding closerOf
   closer-taken l = simp (← square-is, l)
 
-  pub closer-left : lt d (s .dist) ≡ false → s ≡ closerOf e epoch rec nanos secs s
+  pub closer-left : lt d (s .dist) ≡ false → s ≡ closerOf (v .station) (v .e) nanos secs s
   unfolding closerOf
   closer-left l = simp (← square-is, l)
 
@@ -51,12 +56,12 @@ pub record Inside (base half secs x : ℕ) : Type 0 where
   pub high : x ≤ base + 1244
   pub near : Beside half secs x
 
-pub inside : (base half step n secs nanos m : ℕ) → Around base half step n secs nanos → m < n → Inside base half secs (secs - half + step * m)
-inside base half step n secs nanos m a h =
-    let r = reach half step n m h (a .reach) in
+pub inside : (base : ℕ) (w : Stage) (secs nanos m : ℕ) → Around base w secs nanos → m < w .n → Inside base (w .half) secs (secs - w .half + w .step * m)
+inside base w secs nanos m a h =
+    let r = reach (w .half) (w .step) (w .n) m h (a .reach) in
     record { low = omega arith; high = omega arith; near = record { low = omega arith; high = omega arith } }
 
-pub inside-within : {base half step n secs nanos : ℕ} (x : ℕ) → Around base half step n secs nanos → Inside base half secs x → Within 622 x nanos
+pub inside-within : {base : ℕ} {w : Stage} {secs nanos : ℕ} (x : ℕ) → Around base w secs nanos → Inside base (w .half) secs x → Within 622 x nanos
 inside-within x a i = record { low = omega arith; high = omega arith; part = a .part }
 
 -- its entry
@@ -70,7 +75,7 @@ beside-pick : (b : Bool) (half mid secs : ℕ) (d : Float) (s : Closest) → Bes
 beside-pick true half mid secs d s p q = p
 beside-pick false half mid secs d s p q = q
 
-pub beside-closer : (e : Elements) (epoch : Instant) (rec : Vec3) (nanos half mid secs : ℕ) (s : Closest) {r : Closest} → Beside half mid secs → Beside half mid (s .secs)
-    → r ≡ closerOf e epoch rec nanos secs s → Beside half mid (r .secs)
+pub beside-closer : (g : Station) (e : Elements) (nanos half mid secs : ℕ) (s : Closest) {r : Closest} → Beside half mid secs → Beside half mid (s .secs)
+    → r ≡ closerOf g e nanos secs s → Beside half mid (r .secs)
 unfolding closerOf
-beside-closer e epoch rec nanos half mid secs s p q h = rw h (beside-pick (lt (squareAt e epoch rec secs nanos) (s .dist)) half mid secs _ s p q)
+beside-closer g e nanos half mid secs s p q h = rw h (beside-pick (lt (squareAt g e secs nanos) (s .dist)) half mid secs _ s p q)
