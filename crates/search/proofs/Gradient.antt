@@ -16,6 +16,6 @@ pub record Slopes (sum : Float → Float → Float) (raan u : Float) (g : Gradie
   pub u0 : slopeU sum raan u ≡ g .«grad_u0»
 
 pub slopes : (counts : List ℕ) (times : List ℤ) (freqs centers : List Float) (o : Fixed) (raan u : Float)
-    → Slopes (sumOf counts times freqs centers o) raan u (gradientOf counts times freqs centers (o .«rec_ecef») (o .a) (o .i) (o .epoch) (o .«center_freq») raan u)
+    → Slopes (sumOf counts times freqs centers o) raan u (gradientOf (o .station) (record { a = o .a; i = o .i; raan0 = raan; u0 = u }) counts times freqs centers)
 unfolding slopeRaan slopeU sumOf gradientOf
 slopes counts times freqs centers o raan u = record { raan0 = refl; u0 = refl }

@@ -23,17 +23,15 @@ ghost use Rattle.search.specs.Step.{
   stepOf,
 };
 ghost use Rattle.search.specs.Search.{gridOf, openingOf, finishedOf, trajectoryOf, foundBy, betterOf, afterDraws, searchOf};
-use frame::Vec3;
-use moment::Instant;
 use monna::rng::SimpleRng;
+use orbit::Elements;
+use orbit::doppler::Station;
 
 // What a search holds fixed beside its passes.
 pub struct Fixed {
-    pub rec_ecef: Vec3,
+    pub station: Station,
     pub a: f64,
     pub i: f64,
-    pub epoch: Instant,
-    pub center_freq: f64,
 }
 
 // The signs of the sum's differences by the two angles.
@@ -89,28 +87,18 @@ fn sum_at(
     centers: &[f64],
     table: &[f64],
     o: Fixed,
-    raan0: f64,
-    u0: f64,
+    at: Angles,
 ) -> f64
     requires { ⌜ Ready (now counts) (now times) (now freqs) (now centers) (now table) o ⌝ }
-    ensures { λ r. ⌜ r ≡ sumOf (now (counts .entry)) (now (times .entry)) (now (freqs .entry)) (now (centers .entry)) o raan0 u0 ⌝ }
+    ensures { λ r. ⌜ r ≡ sumOf (now (counts .entry)) (now (times .entry)) (now (freqs .entry)) (now (centers .entry)) o (at .raan0) (at .u0) ⌝ }
 {
-    let rec_ecef = o.rec_ecef;
-    let epoch = o.epoch;
-    approach::sums::rss_at(
-        counts,
-        times,
-        freqs,
-        centers,
-        table,
-        rec_ecef,
-        o.a,
-        o.i,
-        epoch,
-        o.center_freq,
-        raan0,
-        u0,
-    )
+    let e = Elements {
+        a: o.a,
+        i: o.i,
+        raan0: at.raan0,
+        u0: at.u0,
+    };
+    approach::sums::rss(counts, times, freqs, centers, table, o.station, e)
 }
 
 fn add_size(x: &[f64], i: usize, sum: f64) -> f64
@@ -158,28 +146,18 @@ fn gradient_signs(
     centers: &[f64],
     table: &[f64],
     o: Fixed,
-    raan0: f64,
-    u0: f64,
+    at: Angles,
 ) -> Signs
     requires { ⌜ Ready (now counts) (now times) (now freqs) (now centers) (now table) o ⌝ }
-    ensures { λ r. ⌜ r ≡ signsOf (sumOf (now (counts .entry)) (now (times .entry)) (now (freqs .entry)) (now (centers .entry)) o) raan0 u0 ⌝ }
+    ensures { λ r. ⌜ r ≡ signsOf (sumOf (now (counts .entry)) (now (times .entry)) (now (freqs .entry)) (now (centers .entry)) o) (at .raan0) (at .u0) ⌝ }
 {
-    let rec_ecef = o.rec_ecef;
-    let epoch = o.epoch;
-    let g = approach::sums::gradient(
-        counts,
-        times,
-        freqs,
-        centers,
-        table,
-        rec_ecef,
-        o.a,
-        o.i,
-        epoch,
-        o.center_freq,
-        raan0,
-        u0,
-    );
+    let e = Elements {
+        a: o.a,
+        i: o.i,
+        raan0: at.raan0,
+        u0: at.u0,
+    };
+    let g = approach::sums::gradient(counts, times, freqs, centers, table, o.station, e);
     Signs {
         raan0: sign(g.grad_raan),
         u0: sign(g.grad_u0),
@@ -327,36 +305,31 @@ fn step(
     requires { ⌜ Ready (now counts) (now times) (now freqs) (now centers) (now table) o × (k < 15) ⌝ }
     ensures { λ r. ⌜ r ≡ stepOf (sumOf (now (counts .entry)) (now (times .entry)) (now (freqs .entry)) (now (centers .entry)) o) k w ⌝ }
 {
-    let rss = sum_at(counts, times, freqs, centers, table, o, w.raan0, w.u0);
-    let s = gradient_signs(counts, times, freqs, centers, table, o, w.raan0, w.u0);
+    let at = Angles {
+        raan0: w.raan0,
+        u0: w.u0,
+    };
+    let rss = sum_at(counts, times, freqs, centers, table, o, at);
+    let s = gradient_signs(counts, times, freqs, centers, table, o, at);
     let next = propose(w, s);
     let other = scramble(k, next);
-    let other_rss = sum_at(
-        counts,
-        times,
-        freqs,
-        centers,
-        table,
-        o,
-        other.raan0,
-        other.u0,
-    );
+    let other_rss = sum_at(counts, times, freqs, centers, table, o, other);
     chosen(k, w, rss, next, other, other_rss)
 }
 
 // A trajectory that has not begun.
-fn opening(raan0: f64, u0: f64, rng: SimpleRng) -> Trajectory
-    ensures { λ r. ⌜ r ≡ openingOf raan0 u0 rng ⌝ }
+fn opening(from: Angles, rng: SimpleRng) -> Trajectory
+    ensures { λ r. ⌜ r ≡ openingOf (from .raan0) (from .u0) rng ⌝ }
 {
     let best = Best {
-        raan0,
-        u0,
+        raan0: from.raan0,
+        u0: from.u0,
         rss: float::MAX,
     };
     let history = [0.0; 15];
     Trajectory {
-        raan0,
-        u0,
+        raan0: from.raan0,
+        u0: from.u0,
         best,
         lr: 0.1,
         noise_std: 0.05,
@@ -378,7 +351,11 @@ fn finished(
     requires { ⌜ Ready (now counts) (now times) (now freqs) (now centers) (now table) o ⌝ }
     ensures { λ r. ⌜ r ≡ finishedOf (sumOf (now (counts .entry)) (now (times .entry)) (now (freqs .entry)) (now (centers .entry)) o) w ⌝ }
 {
-    let final_rss = sum_at(counts, times, freqs, centers, table, o, w.raan0, w.u0);
+    let at = Angles {
+        raan0: w.raan0,
+        u0: w.u0,
+    };
+    let final_rss = sum_at(counts, times, freqs, centers, table, o, at);
     let best = kept(w.best, w.raan0, w.u0, final_rss);
     let rng = w.rng;
     let history = w.history;
@@ -401,14 +378,13 @@ fn langevin_trajectory(
     centers: &[f64],
     table: &[f64],
     o: Fixed,
-    raan0: f64,
-    u0: f64,
+    from: Angles,
     rng: SimpleRng,
 ) -> Trajectory
     requires { ⌜ Ready (now counts) (now times) (now freqs) (now centers) (now table) o ⌝ }
-    ensures { λ r. ⌜ r ≡ trajectoryOf (sumOf (now (counts .entry)) (now (times .entry)) (now (freqs .entry)) (now (centers .entry)) o) raan0 u0 rng ⌝ }
+    ensures { λ r. ⌜ r ≡ trajectoryOf (sumOf (now (counts .entry)) (now (times .entry)) (now (freqs .entry)) (now (centers .entry)) o) (from .raan0) (from .u0) rng ⌝ }
 {
-    let mut w = opening(raan0, u0, rng);
+    let mut w = opening(from, rng);
     for k in 0..15usize {
         w = step(counts, times, freqs, centers, table, o, k, w);
     }
@@ -473,17 +449,11 @@ pub fn search(
     };
     let end = first + count;
     for j in first..end {
-        let w = langevin_trajectory(
-            counts,
-            times,
-            freqs,
-            centers,
-            table,
-            o,
-            grid(j / 12),
-            grid(j % 12),
-            rng,
-        );
+        let from = Angles {
+            raan0: grid(j / 12),
+            u0: grid(j % 12),
+        };
+        let w = langevin_trajectory(counts, times, freqs, centers, table, o, from, rng);
         best = better(best, j, w.best);
         rng = w.rng;
     }

@@ -11,11 +11,11 @@ use Rattle.search.proofs.langevin_trajectory.Statement.{statement}
 use Rattle.search.proofs.langevin_trajectory.Tie as tie
 
 abbrev Inv-loop : tie.InvT-loop
-Inv-loop counts times freqs centers table o raan0 u0 w₀ k₀ w k =
+Inv-loop counts times freqs centers table o w₀ k₀ w k =
     (k ≤ 15) × Left k 15 (stepOf (sumOf counts times freqs centers o)) w (for 0 15 (stepOf (sumOf counts times freqs centers o)) w₀)
 
 abbrev μ-loop : tie.MeasureT-loop
-μ-loop counts times freqs centers table o raan0 u0 w₀ k₀ w k = 15 - k
+μ-loop counts times freqs centers table o w₀ k₀ w k = 15 - k
 
 loop-holds : tie.Need-loop-holds Inv-loop μ-loop
 loop-holds c = search loops

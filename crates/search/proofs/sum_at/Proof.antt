@@ -6,7 +6,7 @@ use Rattle.search.proofs.sum_at.Tie as tie
 
 returns : tie.Need-returns
 unfolding sumOf
-returns c = simp (c .rss-at .ensures)
+returns c = simp (c .rss .ensures)
 
 pub sum-at-spec : {M : Type 1} → statement M
 sum-at-spec = tie.close (tie.spec (λ c κs. search needs) returns)
