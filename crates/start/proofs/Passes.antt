@@ -8,8 +8,10 @@ use lib.IntN.{ℤ}
 use lib.ListN.{length, take, drop, set, replicate, length-replicate}
 use lib.Ieee.{Float, nan}
 use Rattle.moment.specs.declared.Instant.{Instant}
-use Rattle.frame.specs.declared.Vec3.{Vec3}
 use Rattle.orbit.specs.declared.Elements.{Elements}
+use Rattle.orbit.specs.declared.doppler.Station.{Station}
+use Rattle.orbit.specs.declared.doppler.Sight.{Sight}
+use Rattle.orbit.specs.Doppler.{sightOf}
 use Rattle.pass_set.specs.PassSet.{countOf, total, AtPass}
 use Rattle.pass_set.proofs.Laws.{start-zero, start-next, pass-fits, pass-part, pass-length}
 use Rattle.approach.specs.Turns.{Samples, PassSet}
@@ -18,7 +20,7 @@ use Rattle.approach.specs.Sums.{secondsFrom, dtOf}
 use Rattle.approach.proofs.Passes.{part-samples}
 use Rattle.residuals.specs.Residuals.{placeOf}
 use Rattle.start.specs.declared.Periods.{Periods}
-use Rattle.start.specs.Start.{Passes, addPeriod, obsOf, nextPeriod, passDt, putDt}
+use Rattle.start.specs.Start.{Passes, addPeriod, obsOf, nextPeriod, passDt, putDt, startingSet}
 
 -- with any centres, one for each pass, it is a pass set
 pub pass-set : {counts : List ℕ} {times : List ℤ} {freqs : List Float} (centers : List Float) → length centers ≡ length counts → Passes counts times freqs
@@ -54,11 +56,11 @@ pub part-obs : {counts : List ℕ} (times : List ℤ) (freqs : List Float) (cent
 unfolding obsOf
 part-obs times freqs center r a q = rw (pass-part times a, pass-part freqs a) at q
 
-pub part-dt : (e : Elements) (epoch : Instant) (rec : Vec3) (center : Float) {counts : List ℕ} (times : List ℤ) (freqs : List Float) {p k : ℕ} (d : Float) → AtPass counts p k
-    → d ≡ dtOf e epoch rec center center (take (k + countOf counts p - k) (drop k times)) (take (k + countOf counts p - k) (drop k freqs))
-    → d ≡ passDt counts times freqs center rec epoch e p
+pub part-dt : (g : Station) (e : Elements) {counts : List ℕ} (times : List ℤ) (freqs : List Float) {p k : ℕ} (d : Float) → AtPass counts p k
+    → d ≡ dtOf g e (g .«center_freq») (take (k + countOf counts p - k) (drop k times)) (take (k + countOf counts p - k) (drop k freqs))
+    → d ≡ passDt counts times freqs g e p
 unfolding passDt
-part-dt e epoch rec center times freqs d a q = rw (pass-part times a, pass-part freqs a) at q
+part-dt g e times freqs d a q = rw (pass-part times a, pass-part freqs a) at q
 
 -- ---- what a turn of each loop did
 
@@ -67,7 +69,13 @@ pub period-is : (counts : List ℕ) (times : List ℤ) (freqs : List Float) (cen
 unfolding nextPeriod
 period-is counts times freqs center p s r dt t t0 e d q z = e ∙ ap (λ (x : Float). addPeriod x s) (d ∙ ap₂ (λ (x y : Instant). secondsFrom x y) q z)
 
-pub put-is : (counts : List ℕ) (times : List ℤ) (freqs : List Float) (center : Float) (rec : Vec3) (epoch : Instant) (e : Elements) (second : Bool) (p : ℕ) (x : List Float) (at : ℕ) (dt : Float)
-    → at ≡ placeOf second p → dt ≡ passDt counts times freqs center rec epoch e p → set x at dt ≡ putDt counts times freqs center rec epoch e second p x
+pub put-is : (counts : List ℕ) (times : List ℤ) (freqs : List Float) (g : Station) (e : Elements) (second : Bool) (p : ℕ) (x : List Float) (at : ℕ) (dt : Float)
+    → at ≡ placeOf second p → dt ≡ passDt counts times freqs g e p → set x at dt ≡ putDt counts times freqs g e second p x
 unfolding putDt
-put-is counts times freqs center rec epoch e second p x at dt q z = ap₂ (λ (n : ℕ) (d : Float). set x n d) q z
+put-is counts times freqs g e second p x at dt q z = ap₂ (λ (n : ℕ) (d : Float). set x n d) q z
+
+-- what is worked out before is of the orbit and the station given
+pub set-is : (counts : List ℕ) (times : List ℤ) (freqs : List Float) (g : Station) (e : Elements) (second : Bool) (v : Sight) (x : List Float)
+    → v ≡ sightOf g e → x ≡ startingSet counts times freqs (v .station) (v .e) second → x ≡ startingSet counts times freqs g e second
+unfolding sightOf
+set-is counts times freqs g e second v x h q = rw h at q

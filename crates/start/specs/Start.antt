@@ -14,8 +14,8 @@ use Rattle.float.specs.Trig.{pi}
 use Rattle.solution.specs.Range.{leastRadius, mostRadius}
 use Rattle.moment.specs.declared.Instant.{Instant}
 use Rattle.moment.specs.Sample.{Timed}
-use Rattle.frame.specs.declared.Vec3.{Vec3}
 use Rattle.orbit.specs.declared.Elements.{Elements}
+use Rattle.orbit.specs.declared.doppler.Station.{Station}
 use Rattle.orbit.specs.Orbit.{mu}
 use Rattle.pass_set.specs.PassSet.{Sizes, countOf, passOf}
 use Rattle.approach.specs.Pca.{obsPcaTime}
@@ -81,10 +81,10 @@ module _ (counts : List ℕ) (times : List ℤ) (freqs : List Float) (center : F
 unfoldable pub withElements : Elements → List Float
 withElements e = e .a ∷ e .i ∷ e .raan0 ∷ e .u0 ∷ replicate 64 (bits 0)
 
-module _ (counts : List ℕ) (times : List ℤ) (freqs : List Float) (center : Float) (rec : Vec3) (epoch : Instant) (e : Elements) where
-  -- pass p's dt: the seconds from its observed closest moment to the predicted one
+module _ (counts : List ℕ) (times : List ℤ) (freqs : List Float) (g : Station) (e : Elements) where
+  -- pass p's dt: the seconds from its observed closest moment to the predicted one, both by the station's centre
   unfoldable pub passDt : ℕ → Float
-  passDt p = dtOf e epoch rec center center (passOf counts p times) (passOf counts p freqs)
+  passDt p = dtOf g e (g .«center_freq») (passOf counts p times) (passOf counts p freqs)
 
   -- at its place in a set of the first refinement, or of the second
   unfoldable pub putDt : Bool → ℕ → List Float → List Float

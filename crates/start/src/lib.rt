@@ -5,7 +5,7 @@ ghost use Prim.Native.Nat.{_<_};
 ghost use lib.ListN.{length};
 ghost use Rattle.moment.specs.Range.{Within};
 ghost use Rattle.pass_set.specs.PassSet.{AtPass};
-ghost use Rattle.approach.specs.Turns.{Dated, Samples};
+ghost use Rattle.approach.specs.Turns.{Seen, Samples};
 ghost use Rattle.approach.specs.Sums.{dtOf};
 ghost use Rattle.start.specs.Start.{
   Passes,
@@ -20,10 +20,10 @@ ghost use Rattle.start.specs.Start.{
   passDt,
   startingSet,
 };
-use frame::Vec3;
 use moment::Instant;
 use orbit::Elements;
-use orbit::Rates;
+use orbit::doppler::Sight;
+use orbit::doppler::Station;
 use residuals::PARAMS;
 
 // ---- the radius
@@ -133,52 +133,24 @@ fn with_elements(e: Elements) -> [f64; PARAMS]
     x
 }
 
-// Of one pass's samples: the seconds from the observed closest moment to the predicted one.
-fn dt_of(
-    times: &[i64],
-    freqs: &[f64],
-    center: f64,
-    rec: Vec3,
-    epoch: Instant,
-    e: Elements,
-    rates: Rates,
-) -> f64
-    requires { ⌜ Dated e rates epoch × Samples (now times) (now freqs) × (0 < length (now freqs)) ⌝ }
-    ensures { λ r. ⌜ r ≡ dtOf e epoch rec center center (now (times .entry)) (now (freqs .entry)) ⌝ }
+// Of one pass's samples: the seconds from the observed closest moment to the predicted one, both by the station's centre.
+fn dt_of(times: &[i64], freqs: &[f64], v: Sight) -> f64
+    requires { ⌜ Seen v × Samples (now times) (now freqs) × (0 < length (now freqs)) ⌝ }
+    ensures { λ r. ⌜ r ≡ dtOf (v .station) (v .e) (v .station .«center_freq») (now (times .entry)) (now (freqs .entry)) ⌝ }
 {
-    let pred = approach::pca::pred_pca_time(
-        e,
-        rates,
-        epoch,
-        rec,
-        center,
-        &freqs[0..0],
-        0,
-        times,
-        freqs,
-    );
+    let center = v.station.center_freq;
+    let pred = approach::pca::pred_pca_time(v, center, &freqs[0..0], 0, times, freqs);
     let obs = approach::pca::obs_pca_time(times, freqs, center);
     moment::time::tau_millis(pred, obs)
 }
 
 // The same of pass p, whose samples begin at k.
-fn pass_dt(
-    counts: &[u32],
-    times: &[i64],
-    freqs: &[f64],
-    center: f64,
-    rec: Vec3,
-    epoch: Instant,
-    e: Elements,
-    rates: Rates,
-    p: usize,
-    k: usize,
-) -> f64
-    requires { ⌜ Dated e rates epoch × Passes (now counts) (now times) (now freqs) × AtPass (now counts) p k × (p < length (now counts)) ⌝ }
-    ensures { λ r. ⌜ r ≡ passDt (now (counts .entry)) (now (times .entry)) (now (freqs .entry)) center rec epoch e p ⌝ }
+fn pass_dt(counts: &[u32], times: &[i64], freqs: &[f64], v: Sight, p: usize, k: usize) -> f64
+    requires { ⌜ Seen v × Passes (now counts) (now times) (now freqs) × AtPass (now counts) p k × (p < length (now counts)) ⌝ }
+    ensures { λ r. ⌜ r ≡ passDt (now (counts .entry)) (now (times .entry)) (now (freqs .entry)) (v .station) (v .e) p ⌝ }
 {
     let end = k + counts[p] as usize;
-    dt_of(&times[k..end], &freqs[k..end], center, rec, epoch, e, rates)
+    dt_of(&times[k..end], &freqs[k..end], v)
 }
 
 // The first set of a refinement: the orbit, each pass's dt, and no other bias.
@@ -187,19 +159,17 @@ pub fn starting_set(
     counts: &[u32],
     times: &[i64],
     freqs: &[f64],
-    center: f64,
-    rec: Vec3,
-    epoch: Instant,
+    g: Station,
     e: Elements,
 ) -> [f64; PARAMS]
-    requires { ⌜ Passes (now counts) (now times) (now freqs) × Within 0 (epoch .secs) (epoch .nanos) ⌝ }
-    ensures { λ r. ⌜ r ≡ startingSet (now (counts .entry)) (now (times .entry)) (now (freqs .entry)) center rec epoch e second ⌝ }
+    requires { ⌜ Passes (now counts) (now times) (now freqs) × Within 0 (g .epoch .secs) (g .epoch .nanos) ⌝ }
+    ensures { λ r. ⌜ r ≡ startingSet (now (counts .entry)) (now (times .entry)) (now (freqs .entry)) g e second ⌝ }
 {
-    let rates = orbit::rates_of(e);
-    let mut x = with_elements(e);
+    let v = orbit::doppler::sight_of(g, e);
+    let mut x = with_elements(v.e);
     let mut k = 0usize;
     for p in 0..counts.len() {
-        let dt = pass_dt(counts, times, freqs, center, rec, epoch, e, rates, p, k);
+        let dt = pass_dt(counts, times, freqs, v, p, k);
         let at = residuals::place_of(second, p);
         x[at] = dt;
         k = k + counts[p] as usize;

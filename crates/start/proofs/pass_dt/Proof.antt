@@ -27,7 +27,7 @@ dt-of-requires : tie.Need-dt-of-requires
 dt-of-requires c κs = let q = c .before .before .before .before .before .pre in (q .0, samples (q .1) (q .2) (q .3), some (q .1) (q .2) (q .3))
 
 returns : tie.Need-returns
-returns c = let q = c .before .before .before .before .before .before .pre in part-dt _ _ _ _ _ _ _ (q .2) (c .dt-of .ensures)
+returns c = let q = c .before .before .before .before .before .before .pre in part-dt _ _ _ _ _ (q .2) (c .dt-of .ensures)
 
 pub pass-dt-spec : {M : Type 1} → statement M
 pass-dt-spec =

@@ -5,25 +5,26 @@ use lib.ListN.{length}
 use Rattle.loops.proofs.Laws.{Left, begins, again, ends, loops}
 use Rattle.pass_set.specs.PassSet.{AtPass}
 use Rattle.pass_set.proofs.Laws.{first-pass, next-pass}
-use Rattle.approach.specs.Turns.{Dated}
+use Rattle.approach.specs.Turns.{Seen}
+use Rattle.approach.proofs.Passes.{seen}
 use Rattle.start.specs.Start.{putDt, startingSet}
-use Rattle.start.proofs.Passes.{small, put-is}
+use Rattle.start.proofs.Passes.{small, put-is, set-is}
 use Rattle.start.proofs.starting_set.Statement.{statement}
 use Rattle.start.proofs.starting_set.Tie as tie
 
 abbrev Inv-loop : tie.InvT-loop
-Inv-loop second counts times freqs center rec epoch e rates x₀ k₀ p₀ p-end x k p =
-    AtPass counts p k × Left p (length counts) (putDt counts times freqs center rec epoch e second) x (startingSet counts times freqs center rec epoch e second)
-    × Dated e rates epoch
+Inv-loop second counts times freqs v x₀ k₀ p₀ p-end x k p =
+    AtPass counts p k × Left p (length counts) (putDt counts times freqs (v .station) (v .e) second) x (startingSet counts times freqs (v .station) (v .e) second)
+    × Seen v
 
 abbrev μ-loop : tie.MeasureT-loop
-μ-loop second counts times freqs center rec epoch e rates x₀ k₀ p₀ p-end x k p = length counts - p
+μ-loop second counts times freqs v x₀ k₀ p₀ p-end x k p = length counts - p
 
 loop-holds : tie.Need-loop-holds Inv-loop μ-loop
 unfolding startingSet
 loop-holds c =
-    let r = c .before in
-    (first-pass _, begins (rw (c .with-elements .ensures)), record { rates = r .rates-of .ensures; within = r .before .before .before .pre .1 })
+    let v = c .before in
+    (first-pass _, begins (rw (c .with-elements .ensures)), seen _ _ _ (v .sight-of .ensures) (v .before .before .before .pre .1))
 
 pass-dt-requires : tie.Need-pass-dt-requires Inv-loop μ-loop
 pass-dt-requires c κs =
@@ -62,12 +63,14 @@ loop-again c =
     let t = d .before in
     let i = t .before .loop .inv in (
       next-pass (t .loop-test .taken) (i .0),
-      again (t .loop-test .taken) (i .1) (put-is _ _ _ _ _ _ _ _ _ _ _ _ (l .place-of .ensures .0) (d .pass-dt .ensures)),
+      again (t .loop-test .taken) (i .1) (put-is _ _ _ _ _ _ _ _ _ _ (l .place-of .ensures .0) (d .pass-dt .ensures)),
       i .2,
     )
 
 returns : tie.Need-returns Inv-loop μ-loop
-returns c = ends (c .loop-test .left) (c .before .loop .inv .1)
+returns c =
+    let h = c .before in
+    set-is _ _ _ _ _ _ _ _ (h .before .before .sight-of .ensures) (ends (c .loop-test .left) (h .loop .inv .1))
 
 pub starting-set-spec : {M : Type 1} → statement M
 starting-set-spec =
