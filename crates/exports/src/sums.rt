@@ -1,7 +1,8 @@
 // Closest moments and sums of squares, over a pass set in flat arrays.
 ghost use mathlib.Core.Path.{_≡_};
-ghost use Rattle.approach.specs.Sums.{rssAt, gradientOf};
-ghost use Rattle.approach.specs.Answers.{refusalOf, epochOf, FindsPcas, rssAnswer, gradientAnswer};
+ghost use Rattle.orbit.specs.Doppler.{stationAt};
+ghost use Rattle.approach.specs.Sums.{rssOf, gradientOf};
+ghost use Rattle.approach.specs.Answers.{refusalOf, FindsPcas, rssAnswer, gradientAnswer};
 ghost use Rattle.exports.specs.Answers.{moment, place};
 ghost use Rattle.exports.specs.Sums.{rssValue, gradientValues};
 use frame::Vec3;
@@ -63,9 +64,9 @@ pub extern "C" fn wisvalom_compute_rss(
     out: &mut f64,
 ) -> u32
     ensures { λ r. ⌜ r ≡ rssAnswer (refusalOf (moment epoch «epoch_nanos») (now (counts .entry)) (now (times .entry)) (now (freqs .entry)) (now (centers .entry)))
-        (rssAt (now (counts .entry)) (now (times .entry)) (now (freqs .entry)) (now (centers .entry)) (place x y z) a i (epochOf (moment epoch «epoch_nanos»)) «center_freq» raan0 u0) .refusal ⌝ }
+        (rssOf (stationAt (moment epoch «epoch_nanos») «center_freq» (place x y z)) (record { a = a; i = i; raan0 = raan0; u0 = u0 }) (now (counts .entry)) (now (times .entry)) (now (freqs .entry)) (now (centers .entry))) .refusal ⌝ }
     ensures { λ _. ⌜ now (out .exit) ≡ rssValue (now (out .entry)) (rssAnswer (refusalOf (moment epoch «epoch_nanos») (now (counts .entry)) (now (times .entry)) (now (freqs .entry)) (now (centers .entry)))
-        (rssAt (now (counts .entry)) (now (times .entry)) (now (freqs .entry)) (now (centers .entry)) (place x y z) a i (epochOf (moment epoch «epoch_nanos»)) «center_freq» raan0 u0)) ⌝ }
+        (rssOf (stationAt (moment epoch «epoch_nanos») «center_freq» (place x y z)) (record { a = a; i = i; raan0 = raan0; u0 = u0 }) (now (counts .entry)) (now (times .entry)) (now (freqs .entry)) (now (centers .entry)))) ⌝ }
 {
     let answer = approach::compute_rss(
         counts,
@@ -110,9 +111,9 @@ pub extern "C" fn wisvalom_compute_gradient(
     out: &mut [f64; 4],
 ) -> u32
     ensures { λ r. ⌜ r ≡ gradientAnswer (refusalOf (moment epoch «epoch_nanos») (now (counts .entry)) (now (times .entry)) (now (freqs .entry)) (now (centers .entry)))
-        (gradientOf (now (counts .entry)) (now (times .entry)) (now (freqs .entry)) (now (centers .entry)) (place x y z) a i (epochOf (moment epoch «epoch_nanos»)) «center_freq» raan0 u0) .refusal ⌝ }
+        (gradientOf (stationAt (moment epoch «epoch_nanos») «center_freq» (place x y z)) (record { a = a; i = i; raan0 = raan0; u0 = u0 }) (now (counts .entry)) (now (times .entry)) (now (freqs .entry)) (now (centers .entry))) .refusal ⌝ }
     ensures { λ _. ⌜ now (out .exit) ≡ gradientValues (now (out .entry)) (gradientAnswer (refusalOf (moment epoch «epoch_nanos») (now (counts .entry)) (now (times .entry)) (now (freqs .entry)) (now (centers .entry)))
-        (gradientOf (now (counts .entry)) (now (times .entry)) (now (freqs .entry)) (now (centers .entry)) (place x y z) a i (epochOf (moment epoch «epoch_nanos»)) «center_freq» raan0 u0)) ⌝ }
+        (gradientOf (stationAt (moment epoch «epoch_nanos») «center_freq» (place x y z)) (record { a = a; i = i; raan0 = raan0; u0 = u0 }) (now (counts .entry)) (now (times .entry)) (now (freqs .entry)) (now (centers .entry)))) ⌝ }
 {
     let answer = approach::compute_gradient(
         counts,
