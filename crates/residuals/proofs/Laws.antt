@@ -12,16 +12,22 @@ use lib.Seq.{drop-cons, take-suc-set, length-take-le, getD-take}
 use lib.Ieee.{Float, nan}
 use Rattle.float.specs.Ops.{_⊕_, _⊖_, _⊗_, bits}
 use Rattle.pass_set.specs.PassSet.{total}
+use Rattle.float.specs.declared.trig.SinCos.{SinCos}
+use Rattle.moment.specs.Time.{overOf, tauOf}
+use Rattle.refusal.specs.Numbers as refusal
+use Rattle.refusal.specs.Order.{first, _if_, unless}
+use Rattle.orbit.specs.Orbit.{ecefAt}
+use Rattle.orbit.specs.Doppler.{adjustedOf, correctedOf, epochCount, predictedOf}
 use Rattle.orbit.specs.declared.Elements.{Elements}
+use Rattle.orbit.specs.declared.doppler.Station.{Station}
 use Rattle.orbit.specs.declared.doppler.Prediction.{Prediction}
 use Rattle.orbit.specs.declared.doppler.Prediction.the-variants.{Frequency, Refused}
 use Rattle.residuals.specs.Samples.{Passes}
 use Rattle.residuals.specs.Residuals.{_then_, at, elementsOf, dtOf, biasesOf, shiftOf, predictionOf, residual, samples, passes, dtWeight-bits, df1Weight-bits, df2Weight-bits, dtPenalties, driftPenalties, penalties, rowsOf, residuals, sumSquares, sumOf}
-use Rattle.residuals.specs.Answers.{sumAnswer, filled, refusalOf, Filled, Summed}
-use Rattle.residuals.specs.declared.Station.{Station}
+use Rattle.residuals.specs.Answers.{filled, refusalOf, Filled, Summed}
 use Rattle.residuals.specs.declared.Bias.{Bias}
 use Rattle.residuals.specs.declared.Sum.{Sum}
-use Rattle.residuals.specs.declared.Sum.the-variants.{Value}
+use Rattle.residuals.specs.declared.Sum.the-variants.{Value, Refused as NoSum}
 
 -- ---- lists one after the other
 
@@ -82,6 +88,23 @@ module _ (one : ℕ → ℕ → ℕ → Option (List Float)) where
     where
       nothing : (e k : ℕ) → e ≤ k → e - k ≡ 0
       nothing e k h = omega arith
+
+-- A prediction is refused by no other number than 23.
+far-alone : (n : ℕ) (o q : Bool) (v : Float) → unless Refused (first ((refusal.far-moment if o) ∷ (refusal.far-moment if q) ∷ [])) (Frequency v) ≡ Refused n → n ≡ refusal.far-moment
+far-alone n true q v e = cc
+far-alone n false true v e = cc
+far-alone n false false v e = cc
+
+predicted-far : (g : Station) (e : Elements) (t : ℕ) (turn : SinCos) (dt near bias : Float) (n : ℕ) → predictedOf g e t turn dt near bias ≡ Refused n → n ≡ refusal.far-moment
+unfolding predictedOf
+predicted-far g e t turn dt near bias n h =
+    let early = adjustedOf t dt in
+    let late = correctedOf early (ecefAt (e .a) (e .i) (e .raan0) (e .u0) (tauOf early (epochCount g)) turn) in
+    far-alone n (overOf early) (overOf late) _ h
+
+pub only-far : (g : Station) (times : List ℕ) (e : Elements) (dt : Float) (b : Bias) (f k : ℕ) {y : Prediction} → y ≡ predictionOf g times e dt b f k → (n : ℕ) → y ≡ Refused n → n ≡ refusal.far-moment
+unfolding predictionOf
+only-far g times e dt b f k ey n h = predicted-far g e _ _ dt _ _ n (sym ey ∙ h)
 
 -- The residual of a sample from the prediction y.
 module _ (second : Bool) (g : Station) (d : Passes) (x : List Float) (p f k : ℕ) (e : Elements) (dt : Float) (b : Bias) (y : Prediction)
@@ -182,7 +205,12 @@ module _ (out : List Float) (n : ℕ) (fits : n ≤ length out) (sum : Float) (k
 
 -- ---- the whole
 
-filled-not : (n : ℕ) (l : List Float) → (n ≡ 0 → ⊥) → filled n l ≡ none
+-- nothing is given, and the number is 23
+pub far-filled : {w : Option (List Float)} {n : ℕ} {xs : List Float} → none ≡ w → n ≡ refusal.far-moment → Filled n xs w
+far-filled {w} {n} {xs} z e = record { written = ap (λ (k : ℕ). filled k xs) e ∙ z; number = e ∙ ap refusalOf z }
+
+-- what is refused gives nothing
+pub filled-not : (n : ℕ) (l : List Float) → (n ≡ 0 → ⊥) → filled n l ≡ none
 filled-not zero l h = absurd (h refl)
 filled-not (suc n) l h = refl
 
@@ -222,8 +250,8 @@ module _ (second : Bool) (g : Station) (d : Passes) (x : List Float) (r : ℕ) w
         (rw (e, c, sizes) (e₃ ∙ ap (_++ driftPenalties x 0 m) (rw e at e₂) ∙ append-assoc (take n o₁) (dtPenalties true x 0 m) (driftPenalties x 0 m)))
 
 module _ (r : ℕ) (l : List Float) where
-  pub sum-far : (w : Option (List Float)) → (r ≡ 0 → ⊥) → Filled r l w → Summed l w (sumAnswer none)
-  sum-far none h p = record { answer = refl; written = refl }
+  pub sum-far : (w : Option (List Float)) → (r ≡ 0 → ⊥) → Filled r l w → Summed l w (NoSum r)
+  sum-far none h p = record { answer = ap NoSum (p .number); written = refl }
   sum-far (some xs) h p = absurd (h (p .number))
 
   pub sum-is : (v : Float) (w : Option (List Float)) → r ≡ 0 → Filled r l w → v ≡ sumOf l → Summed l w (Value v)

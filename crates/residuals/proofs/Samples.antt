@@ -1,5 +1,5 @@
 -- What the calls of `predict_sample` make of a prediction, and those of `rotations` of the rotations. Assumes nothing.
-use mathlib.Core.Path.{_≡_, refl, sym, ap, _∙_}
+use mathlib.Core.Path.{_≡_, refl, sym, ap, subst, _∙_}
 use mathlib.Core.Bool.{true}
 use mathlib.Core.List.{List, [], _∷_, _++_, append-nil}
 use Prim.Native.Nat.{ℕ, zero, suc, _+_, _*_, _<_, _≤_}
@@ -20,27 +20,37 @@ use Rattle.moment.specs.Time.{nanosOf, tauMillisOf}
 use Rattle.moment.specs.Sample.{timeInRange, Timed, instantAt}
 use Rattle.moment.specs.declared.Instant.{Instant}
 use Rattle.moment.proofs.Samples.{ranged, of-nanos}
-use Rattle.orbit.specs.Orbit.{ratesOf}
-use Rattle.orbit.specs.Doppler.{potentialOf, predictedAt, predicted-hoisted}
+use Rattle.orbit.specs.Doppler.{sightOf, predictedAt}
 use Rattle.orbit.specs.declared.Elements.{Elements}
-use Rattle.orbit.specs.declared.Rates.{Rates}
+use Rattle.orbit.specs.declared.doppler.Station.{Station}
+use Rattle.orbit.specs.declared.doppler.Sight.{Sight}
 use Rattle.orbit.specs.declared.doppler.Prediction.{Prediction}
+use Rattle.orbit.proofs.Hoisted.{predicted-at}
 use Rattle.residuals.specs.Samples.{countAt, countsAt, instantOf, nanosAt, rotationAt, turnIn, Dated, Rotations}
 use Rattle.residuals.specs.Residuals.{biasAt, nearOf, predictionOf}
-use Rattle.residuals.specs.declared.Station.{Station}
 use Rattle.residuals.specs.declared.Bias.{Bias}
 use Rattle.residuals.proofs.Laws.{stored}
 
--- the moments t and s, the bias v, what holds within a metre w, the rotation r and the prediction y, as the calls give them
-pub predicts : (g : Station) (times : List ℕ) (turns : List Float) (e : Elements) (rates : Rates) (u dt : Float) (b : Bias) (f k : ℕ) (t s : Instant) (v w : Float) (r : SinCos) (y : Prediction)
-    → Rotations times turns → k < length times → rates ≡ ratesOf e → u ≡ potentialOf (g .«rec_ecef» .x) (g .«rec_ecef» .y) (g .«rec_ecef» .z)
-    → t ≡ instantOf (getD times k 0) → s ≡ instantOf (getD times f 0)
-    → v ≡ biasAt b (tauMillisOf (nanosOf (t .secs) (t .nanos)) (nanosOf (s .secs) (s .nanos))) → w ≡ nearOf b → r ≡ turnIn turns k
-    → y ≡ predictedAt e rates (nanosOf (g .epoch .secs) (g .epoch .nanos)) (nanosOf (t .secs) (t .nanos)) r dt w v (g .«center_freq») (g .«rec_ecef») u
-    → y ≡ predictionOf g times e dt b f k
+-- the sight of an orbit is its own station's of its own elements
+pub seen : (g : Station) (e : Elements) (v : Sight) → v ≡ sightOf g e → v ≡ sightOf (v .station) (v .e)
+unfolding sightOf
+seen g e v h = subst (λ (w : Sight). w ≡ sightOf (w .station) (w .e)) (sym h) refl
+
+-- and so a prediction over it is the given station's
+pub seen-prediction : (g : Station) (e : Elements) (v : Sight) (times : List ℕ) (dt : Float) (b : Bias) (f k : ℕ) (y : Prediction)
+    → v ≡ sightOf g e → y ≡ predictionOf (v .station) times (v .e) dt b f k → y ≡ predictionOf g times e dt b f k
+unfolding sightOf
+seen-prediction g e v times dt b f k y h q = q ∙ ap (λ (w : Sight). predictionOf (w .station) times (w .e) dt b f k) h
+
+-- the moments t and s, the bias u, what holds within a metre w, the rotation r and the prediction y, as the calls give them
+pub predicts : (times : List ℕ) (turns : List Float) (v : Sight) (dt : Float) (b : Bias) (f k : ℕ) (t s : Instant) (u w : Float) (r : SinCos) (y : Prediction)
+    → Rotations times turns → k < length times → v ≡ sightOf (v .station) (v .e) → t ≡ instantOf (getD times k 0) → s ≡ instantOf (getD times f 0)
+    → u ≡ biasAt b (tauMillisOf (nanosOf (t .secs) (t .nanos)) (nanosOf (s .secs) (s .nanos))) → w ≡ nearOf b → r ≡ turnIn turns k
+    → y ≡ predictedAt v (nanosOf (t .secs) (t .nanos)) r dt w u
+    → y ≡ predictionOf (v .station) times (v .e) dt b f k
 unfolding predictionOf nanosAt
-predicts g times turns e rates u dt b f k t s v w r y turned h er eu et es ev ew eturn ey =
-    rw (ey, er, eu, eturn, turned .each k h, ew, ev, et, es) (predicted-hoisted e _ _ _ dt _ _ _ (g .«rec_ecef»))
+predicts times turns v dt b f k t s u w r y turned h ev et es eu ew er ey =
+    predicted-at (v .station) (v .e) _ _ _ dt _ _ v y (turned .each k h) ev (rw (er, ew, eu, et, es) at ey)
 
 -- ---- the loop that writes the rotations
 

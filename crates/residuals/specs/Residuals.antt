@@ -10,13 +10,13 @@ use lib.ListN.{length, getD}
 use lib.Ieee.{Float, nan, neg, ofBits, round}
 use Rattle.float.specs.Constant.{decimal}
 use Rattle.float.specs.Ops.{_⊕_, _⊖_, _⊗_, bits}
-use Rattle.moment.specs.Time.{nanosOf, tauMillisOf}
+use Rattle.moment.specs.Time.{tauMillisOf}
 use Rattle.orbit.specs.Doppler.{predictedOf, biasOf}
 use Rattle.orbit.specs.declared.Elements.{Elements}
+use Rattle.orbit.specs.declared.doppler.Station.{Station}
 use Rattle.orbit.specs.declared.doppler.Prediction.{Prediction}
 use Rattle.orbit.specs.declared.doppler.Prediction.the-variants.{Frequency, Refused}
 use Rattle.residuals.specs.Samples.{Passes, nanosAt, rotationAt}
-use Rattle.residuals.specs.declared.Station.{Station}
 use Rattle.residuals.specs.declared.Bias.{Bias}
 use Rattle.residuals.specs.declared.Bias.the-variants.{Constant, Polynomial}
 
@@ -58,8 +58,7 @@ module _ (g : Station) (times : List ℕ) where
   unfoldable pub predictionOf : Elements → Float → Bias → ℕ → ℕ → Prediction
   predictionOf e dt b f k =
       let t = getD times k 0 in
-      predictedOf (e .a) (e .i) (e .raan0) (e .u0) (nanosOf (g .epoch .secs) (g .epoch .nanos)) (nanosAt t) (rotationAt t) dt
-      (nearOf b) (biasAt b (tauMillisOf (nanosAt t) (nanosAt (getD times f 0)))) (g .«center_freq») (g .«rec_ecef»)
+      predictedOf g e (nanosAt t) (rotationAt t) dt (nearOf b) (biasAt b (tauMillisOf (nanosAt t) (nanosAt (getD times f 0))))
 
 abbrev pub shiftOf : Prediction → Option Float
 shiftOf (Frequency v) = some v

@@ -11,8 +11,8 @@ use Rattle.moment.specs.Time.{nanosOf, Sound}
 use Rattle.moment.specs.Sample.{shifted}
 use Rattle.moment.specs.declared.Instant.{Instant}
 use Rattle.frame.specs.Rotation.{turnAt}
+use Rattle.orbit.specs.declared.doppler.Station.{Station}
 use Rattle.pass_set.specs.PassSet.{total}
-use Rattle.residuals.specs.declared.Station.{Station}
 
 -- How many samples each pass has, and of each sample its moment and its frequency. Passes without samples are dropped before.
 -- A moment is counted in nanoseconds from 4·10^9 s before 1970 on.

@@ -11,8 +11,7 @@ ghost use lib.Ieee.{neg};
 ghost use Rattle.float.specs.Ops.{bits};
 ghost use Rattle.moment.specs.Sample.{timeInRange, Timed};
 ghost use Rattle.moment.specs.Time.{nanosOf, tauMillisOf, Sound};
-ghost use Rattle.orbit.specs.Orbit.{ratesOf};
-ghost use Rattle.orbit.specs.Doppler.{potentialOf};
+ghost use Rattle.orbit.specs.Doppler.{sightOf};
 ghost use Rattle.residuals.specs.Samples.{countAt, countsAt, passesOf, instantOf, rotationAt, turnIn, Dated, Rotations, Samples};
 ghost use Rattle.residuals.specs.Residuals.{
   elementsOf,
@@ -32,25 +31,18 @@ ghost use Rattle.residuals.specs.Residuals.{
 };
 ghost use Rattle.residuals.specs.Answers.{Filled, Summed};
 use float::trig::SinCos;
-use frame::Vec3;
 use moment::Instant;
 use orbit::Elements;
-use orbit::Rates;
 use orbit::doppler::DfPoly;
 use orbit::doppler::Prediction;
+use orbit::doppler::Sight;
+use orbit::doppler::Station;
 
 // Parameters of 16 passes.
 pub const PARAMS: usize = 68;
 
 // Residuals of 4,096 samples in 16 passes, with their penalties.
 pub const ROWS: usize = 4144;
-
-// What all predictions of a fit share.
-pub struct Station {
-    pub epoch: Instant,
-    pub center_freq: f64,
-    pub rec_ecef: Vec3,
-}
 
 // A pass's frequency bias: df, or df0 with its first two derivatives.
 pub enum Bias {
@@ -192,44 +184,26 @@ fn bias_at(b: Bias, t: Instant, since: Instant) -> f64
     }
 }
 
-// The shift of sample k of a pass that begins with sample `first`. Rates of the orbit and potential at the receiver are worked
-// out before.
+// The shift of sample k of a pass that begins with sample `first`.
 fn predict_sample(
     times: &[u64],
     turns: &[f64],
-    g: Station,
-    e: Elements,
-    rates: Rates,
-    u_rec: f64,
+    v: Sight,
     dt: f64,
     b: Bias,
     first: usize,
     k: usize,
 ) -> Prediction
-    requires { ⌜ Sound (g .epoch .secs) (g .epoch .nanos) × Rotations (now times) (now turns) × (first < length (now times)) × (k < length (now times))
-        × (rates ≡ ratesOf e) × («u_rec» ≡ potentialOf (g .«rec_ecef» .x) (g .«rec_ecef» .y) (g .«rec_ecef» .z)) ⌝ }
-    ensures { λ r. ⌜ r ≡ predictionOf g (now (times .entry)) e dt b first k ⌝ }
+    requires { ⌜ Sound (v .station .epoch .secs) (v .station .epoch .nanos) × Rotations (now times) (now turns) × (first < length (now times)) × (k < length (now times))
+        × (v ≡ sightOf (v .station) (v .e)) ⌝ }
+    ensures { λ r. ⌜ r ≡ predictionOf (v .station) (now (times .entry)) (v .e) dt b first k ⌝ }
 {
     let t = instant(times[k]);
     let since = instant(times[first]);
     let bias = bias_at(b, t, since);
     let near = near_of(b);
     let turn = turn_in(turns, k);
-    let epoch = g.epoch;
-    let rec = g.rec_ecef;
-    orbit::doppler::predict(
-        e,
-        rates,
-        epoch,
-        t,
-        turn,
-        dt,
-        near,
-        bias,
-        g.center_freq,
-        rec,
-        u_rec,
-    )
+    orbit::doppler::predict(v, t, turn, dt, near, bias)
 }
 
 // ---- all residuals
@@ -250,9 +224,7 @@ fn sample_residuals(
         (passes (residual second g (passesOf (now (counts .entry)) (now (times .entry)) (now (freqs .entry))) x) 0 0 (now (counts .entry))) ⌝ }
 {
     let e = elements_of(x);
-    let rates = orbit::rates_of(e);
-    let u_rec = orbit::doppler::potential(g.rec_ecef);
-    let center_freq = g.center_freq;
+    let sight = orbit::doppler::sight_of(g, e);
     let mut refusal = 0u32;
     let mut k = 0usize;
     let mut p = 0usize;
@@ -262,12 +234,16 @@ fn sample_residuals(
         let dt = dt_of(second, x, p);
         let b = biases_of(second, x, p);
         while k < end {
-            let pred = predict_sample(times, turns, g, e, rates, u_rec, dt, b, first, k);
-            let Prediction::Frequency(v) = pred else {
-                refusal = refusal::FAR_MOMENT;
-                break 'passes;
-            };
-            out[k] = freqs[k] - (center_freq + v);
+            let pred = predict_sample(times, turns, sight, dt, b, first, k);
+            match pred {
+                Prediction::Refused(number) => {
+                    refusal = number;
+                    break 'passes;
+                }
+                Prediction::Frequency(v) => {
+                    out[k] = freqs[k] - (g.center_freq + v);
+                }
+            }
             k += 1;
         }
         p += 1;
@@ -373,7 +349,7 @@ pub fn penalised_sum(
 {
     let refusal = residuals_into(second, counts, times, freqs, turns, g, x, out);
     if refusal != 0 {
-        return Sum::Refused(refusal::FAR_MOMENT);
+        return Sum::Refused(refusal);
     }
     let rows = rows_of(second, times.len(), counts.len());
     Sum::Value(sum_squares(out, rows))

@@ -12,7 +12,9 @@ use Rattle.pass_set.specs.PassSet.{total}
 use Rattle.residuals.specs.Samples.{passesOf}
 use Rattle.residuals.specs.Residuals.{_then_, residual, samples, passes}
 use Rattle.residuals.specs.Answers.{filled, refusalOf}
-use Rattle.residuals.proofs.Laws.{then-nil, total-next, total-end, residual-is, residual-far, into-pass, next-sample, too-far, past-pass, past-passes}
+use Rattle.orbit.proofs.Hoisted.{sight-sound}
+use Rattle.residuals.proofs.Samples.{seen, seen-prediction}
+use Rattle.residuals.proofs.Laws.{then-nil, total-next, total-end, residual-is, residual-far, only-far, far-filled, into-pass, next-sample, too-far, past-pass, past-passes}
 use Rattle.residuals.proofs.sample_residuals.Statement.{statement}
 use Rattle.residuals.proofs.sample_residuals.Tie as tie
 
@@ -38,18 +40,18 @@ record Inner (one : ℕ → ℕ → ℕ → _) (counts times : List ℕ) (freqs 
   whole : (some (take k out) then (samples one p first k (end - k) then passes one (p + 1) end (drop (p + 1) counts))) ≡ passes one 0 0 counts
 
 abbrev Inv-loop : tie.InvT-loop
-Inv-loop second counts times freqs turns g x out₀ e rates u-rec center-freq refusal₀ k₀ p first end dt b out refusal k =
+Inv-loop second counts times freqs turns g x out₀ sight refusal₀ k₀ p first end dt b out refusal k =
     Inner (residual second g (passesOf counts times freqs) x) counts times freqs out₀ p first end out refusal k
 
 abbrev μ-loop : tie.MeasureT-loop
-μ-loop second counts times freqs turns g x out₀ e rates u-rec center-freq refusal₀ k₀ p first end dt b out refusal k = end - k
+μ-loop second counts times freqs turns g x out₀ sight refusal₀ k₀ p first end dt b out refusal k = end - k
 
 abbrev Inv-passes : tie.InvT-passes
-Inv-passes second counts times freqs turns g x out₀ e rates u-rec center-freq refusal₀ k₀ p₀ out refusal k p =
+Inv-passes second counts times freqs turns g x out₀ sight refusal₀ k₀ p₀ out refusal k p =
     Outer (residual second g (passesOf counts times freqs) x) counts out₀ out refusal k p
 
 abbrev μ-passes : tie.MeasureT-passes
-μ-passes second counts times freqs turns g x out₀ e rates u-rec center-freq refusal₀ k₀ p₀ out refusal k p = length counts - p
+μ-passes second counts times freqs turns g x out₀ sight refusal₀ k₀ p₀ out refusal k p = length counts - p
 
 passes-holds : tie.Need-passes-holds Inv-loop μ-loop Inv-passes μ-passes
 passes-holds c = record { clear = refl; within = search needs; left = omega arith; same = refl; whole = then-nil _ }
@@ -60,14 +62,14 @@ cast-end c = omega (arith, c .shared-slice-known5 .given (c .before .before .pas
 add-end : tie.Need-add-end Inv-loop μ-loop Inv-passes μ-passes
 add-end c =
     let at = c .before .before in
-    let entry = at .before .before .before .before .before .before .before .before .before in
+    let entry = at .before .before .before .before .before .before .before .before in
     omega (arith, entry .pre .0 .whole, entry .pre .0 .small, total-next (entry .args .counts .now) (at .passes .p) (c .before .passes-test .taken))
 
 loop-holds : tie.Need-loop-holds Inv-loop μ-loop Inv-passes μ-passes
 loop-holds c =
     let turn = c .before .before .before in
     let at = turn .before in
-    let entry = at .before .before .before .before .before .before .before .before .before in
+    let entry = at .before .before .before .before .before .before .before .before in
     let counts = entry .args .counts .now in
     let step = total-next counts (at .passes .p) (turn .passes-test .taken) in
     record {
@@ -87,24 +89,23 @@ predict-sample-requires : tie.Need-predict-sample-requires Inv-loop μ-loop Inv-
 predict-sample-requires c κs =
     let head = c .before in
     let known = head .before .before .before .before .before .before in
-    let pre = known .before .before .before .before .before .before .before .before .pre in (
-      pre .0 .epoch,
+    let pre = known .before .before .before .before .before .before .before .pre in (
+      sight-sound _ _ _ (known .sight-of .ensures) (pre .0 .epoch),
       pre .0 .turned,
       omega (arith, head .loop .inv .from, head .loop .inv .inside, c .loop-test .taken),
       omega (arith, head .loop .inv .inside, c .loop-test .taken),
-      known .before .rates-of .ensures,
-      known .potential .ensures,
+      seen _ _ _ (known .sight-of .ensures),
     )
 
 loop-again : tie.Need-loop-again Inv-loop μ-loop Inv-passes μ-passes
 loop-again c =
-    let told = c .before in
+    let told = c .before .before in
     let called = told .before .before .before in
     let turn = called .before in
     let head = turn .before in
     let biased = head .before in
     let entered = biased .before .before .before .before in
-    let elements = entered .before .before .before in
+    let sight = entered .before in
     record {
       clear = head .loop .inv .clear;
       from = omega arith;
@@ -118,7 +119,7 @@ loop-again c =
       whole =
           next-sample _ _ (head .loop .out) _ _ (head .loop .k) _ _ _ (turn .loop-test .taken)
           (omega (arith, head .loop .inv .inside, head .loop .inv .room, turn .loop-test .taken))
-          (residual-is _ _ _ _ _ _ _ _ _ _ _ (elements .elements-of .ensures) (biased .before .dt-of .ensures) (biased .biases-of .ensures) (called .predict-sample .ensures) _ (told .before .pred .given .1))
+          (residual-is _ _ _ _ _ _ _ _ _ _ _ (sight .before .elements-of .ensures) (biased .before .dt-of .ensures) (biased .biases-of .ensures) (seen-prediction _ _ _ _ _ _ _ _ _ (sight .sight-of .ensures) (called .predict-sample .ensures)) _ (told .before .pred2 .given .1))
           (head .loop .inv .whole);
     }
 
@@ -126,7 +127,7 @@ passes-again : tie.Need-passes-again Inv-loop μ-loop Inv-passes μ-passes
 passes-again c =
     let head = c .before in
     let entered = head .before .before .before .before .before in
-    let entry = entered .before .before .before .before .before .before .before .before .before in
+    let entry = entered .before .before .before .before .before .before .before .before in
     let args = entry .args in
     let p = entered .passes .p in
     record {
@@ -143,7 +144,7 @@ passes-again c =
 returns : tie.Need-returns Inv-loop μ-loop Inv-passes μ-passes
 returns c =
     let head = c .before in
-    let entry = head .before .before .before .before .before .before .before .before .before in
+    let entry = head .before .before .before .before .before .before .before .before in
     let args = entry .args in
     let end : head .passes .k ≡ length (args .times .now) = omega (arith, entry .pre .0 .whole, total-end (args .counts .now) (head .passes .p) (c .passes-test .left)) in
     let whole = ap (λ (n : ℕ). some (take n (head .passes .out))) (sym end) ∙ past-passes _ _ _ (head .passes .p) _ _ (c .passes-test .left) (head .passes .inv .whole) in
@@ -154,17 +155,18 @@ returns c =
 
 returns-2 : tie.Need-returns-2 Inv-loop μ-loop Inv-passes μ-passes
 returns-2 c =
-    let called = c .before .before in
+    let told = c .before in
+    let called = told .before .before in
     let turn = called .before in
     let head = turn .before in
     let biased = head .before in
     let entered = biased .before .before .before .before in
-    let elements = entered .before .before .before in
-    let whole =
-    too-far _ _ (take (head .loop .k) (head .loop .out)) _ _ (head .loop .k) _ _ (turn .loop-test .taken)
-    (residual-far _ _ _ _ _ _ _ _ _ _ _ (elements .elements-of .ensures) (biased .before .dt-of .ensures) (biased .biases-of .ensures) (called .predict-sample .ensures) (c .enum-told .given .0 .0) (c .enum-told .given .1))
-    (head .loop .inv .whole) in
-    record { written = whole; number = ap refusalOf whole }
+    let sight = entered .before in
+    let pred = seen-prediction _ _ _ _ _ _ _ _ _ (sight .sight-of .ensures) (called .predict-sample .ensures) in
+    far-filled (too-far _ _ (take (head .loop .k) (head .loop .out)) _ _ (head .loop .k) _ _ (turn .loop-test .taken)
+    (residual-far _ _ _ _ _ _ _ _ _ _ _ (sight .before .elements-of .ensures) (biased .before .dt-of .ensures) (biased .biases-of .ensures) pred _ (told .pred .given .1))
+    (head .loop .inv .whole))
+    (only-far _ _ _ _ _ _ _ pred _ (told .pred .given .1))
 
 pub sample-residuals-spec : {M : Type 1} → statement M
 sample-residuals-spec =
@@ -174,7 +176,6 @@ sample-residuals-spec =
     μ-loop
     Inv-passes
     μ-passes
-    (λ c κs. search needs)
     (λ c κs. search needs)
     (λ c κs. search needs)
     passes-holds
