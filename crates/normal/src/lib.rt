@@ -340,18 +340,27 @@ fn table_step(
     lambda: f64,
     a: &mut [f64],
     v: &mut [f64],
-    f: &mut [f64],
-    delta: &mut [f64],
     x: &mut [f64],
-    room: &mut [f64],
 ) -> Step
-    requires { ⌜ Grid (length (now r)) n (now table) × Grid n n (now a) × (length (now v) ≡ n) × (length (now f) ≡ n) × (length (now delta) ≡ n) × (length (now x) ≡ 68) × (4 ≤ n) × (n * (n + 1) ≤ length (now room)) ⌝ }
+    requires { ⌜ Grid (length (now r)) n (now table) × Grid n n (now a) × (length (now v) ≡ n) × (length (now x) ≡ 68) × (4 ≤ n) ⌝ }
     ensures { λ s. ⌜ outcome s (now (x .exit)) ≡ dampedStep second (length (now (r .entry))) n (tableEntry n (now (table .entry))) (at (now (r .entry))) lambda (now (x .entry)) ⌝ }
 {
     sum_jt_j(table, r.len(), n, a);
     sum_jt_r(table, r, n, v);
     damp(a, n, lambda);
-    solve_step(second, a, v, f, n, delta, x, room)
+    let mut factors = [0.0; PARAMS];
+    let mut delta = [0.0; PARAMS];
+    let mut room = [0.0; ROOM];
+    solve_step(
+        second,
+        a,
+        v,
+        &mut factors[..n],
+        n,
+        &mut delta[..n],
+        x,
+        &mut room,
+    )
 }
 
 // A step's answer, with the set that it leads to.
@@ -374,9 +383,6 @@ pub fn damped_step(
 {
     let mut jt_j = [0.0; 4624];
     let mut jt_r = [0.0; PARAMS];
-    let mut factors = [0.0; PARAMS];
-    let mut delta = [0.0; PARAMS];
-    let mut room = [0.0; ROOM];
     let mut next = params;
     let cells = n * n;
     let step = table_step(
@@ -387,10 +393,7 @@ pub fn damped_step(
         lambda,
         &mut jt_j[..cells],
         &mut jt_r[..n],
-        &mut factors[..n],
-        &mut delta[..n],
         &mut next,
-        &mut room,
     );
     Stepped { step, params: next }
 }
