@@ -10,10 +10,10 @@ use lib.Seq.{take-at, drop-at, length-take-le}
 use lib.Ieee.{Float}
 use Rattle.loops.specs.Loop.{try}
 use Rattle.linear.specs.Elimination.{at}
+use Rattle.orbit.specs.declared.doppler.Station.{Station}
 use Rattle.residuals.specs.Samples.{Passes, Samples}
 use Rattle.residuals.specs.Residuals.{placeOf, rowsOf, residuals}
 use Rattle.residuals.specs.Answers.{Filled, Summed}
-use Rattle.residuals.specs.declared.Station.{Station}
 use Rattle.residuals.specs.declared.Sum.{Sum}
 use Rattle.residuals.specs.declared.Sum.the-variants.{Value}
 use Rattle.residuals.proofs.Laws.{summed-known}

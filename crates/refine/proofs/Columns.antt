@@ -2,18 +2,15 @@
 use mathlib.Core.Path.{_≡_, refl, sym, ap, _∙_}
 use mathlib.Core.List.{List}
 use mathlib.Core.Option.{Option, none}
-use Prim.Native.Nat.{ℕ, zero, suc, _+_, _≤_, _<_}
+use Prim.Native.Nat.{ℕ, _+_, _≤_, _<_}
 use lib.ListN.{take}
 use lib.Ieee.{Float}
 use Rattle.refusal.specs.Numbers as refusal
 use Rattle.loops.specs.Loop.{for}
 use Rattle.loops.proofs.Laws.{Tries, again-try, refused, ends-try, loops}
-use Rattle.residuals.specs.Answers.{filled, refusalOf, Filled}
+use Rattle.residuals.specs.Answers.{refusalOf, Filled}
+use Rattle.residuals.proofs.Laws.{filled-not}
 use Rattle.refine.specs.Jacobian.{perturbedOf, putEntry, columnOf}
-
-pub filled-not : (n : ℕ) (l : List Float) → (n ≡ 0 → ⊥) → filled n l ≡ none
-filled-not zero l h = absurd (h refl)
-filled-not (suc n) l h = refl
 
 -- what was refused, was refused by 23
 module _ (k : ℕ) (l : List Float) (w : Option (List Float)) (f : Filled k l w) (h : k ≡ 0 → ⊥) where

@@ -7,9 +7,9 @@ use Prim.Native.Nat.{ℕ, _*_, _≤_}
 use lib.ListN.{length, drop}
 use lib.Ieee.{Float}
 use Rattle.refusal.specs.Numbers as refusal
+use Rattle.orbit.specs.declared.doppler.Station.{Station}
 use Rattle.residuals.specs.Samples.{Passes, Samples}
 use Rattle.residuals.specs.Residuals.{placeOf, rowsOf, residuals}
-use Rattle.residuals.specs.declared.Station.{Station}
 use Rattle.normal.specs.Step.{Outcome, refused, dampedStep}
 use Rattle.normal.specs.Answers.{outcomeOf}
 use Rattle.normal.specs.declared.Stepped.{Stepped}

@@ -13,9 +13,16 @@ ghost use Rattle.refine.specs.Jacobian.{biasEps, epsOf, perturbedOf, put
 ghost use Rattle.refine.specs.Advance.{advanceOf, cellsOf, Ready, Advances};
 use normal::Step;
 use normal::Stepped;
+use orbit::doppler::Station;
 use residuals::PARAMS;
 use residuals::ROWS;
-use residuals::Station;
+
+// A set of parameters of either refinement, and what its predictions share.
+pub struct Point {
+    pub second: bool,
+    pub station: Station,
+    pub params: [f64; PARAMS],
+}
 
 fn bias_eps(j: usize) -> f64
     ensures { λ r. ⌜ r ≡ biasEps j ⌝ }
@@ -73,23 +80,24 @@ fn put_column(r: &[f64], column: &[f64], n: usize, eps: f64, k: usize, table: &m
 
 // Column k of the table, or the refusal of the moved set's residuals.
 fn jacobian_column(
-    second: bool,
+    p: Point,
     counts: &[u32],
     times: &[u64],
     freqs: &[f64],
     turns: &[f64],
-    g: Station,
-    x: [f64; PARAMS],
     r: &[f64],
     n: usize,
     k: usize,
     table: &mut [f64],
 ) -> u32
-    requires { ⌜ Samples g (passesOf (now counts) (now times) (now freqs)) (now turns) × Grid (length (now r)) n (now table)
-        × (length (now r) ≡ rowsOf second (length (now times)) (length (now counts))) × (k < n) ⌝ }
-    ensures { λ k′. ⌜ Filled k′ (now (table .exit)) (columnOf (epsOf second) (residuals second g (passesOf (now (counts .entry)) (now (times .entry)) (now (freqs .entry))))
-        x (now (r .entry)) (length (now (r .entry))) n k (now (table .entry))) ⌝ }
+    requires { ⌜ Samples (p .station) (passesOf (now counts) (now times) (now freqs)) (now turns) × Grid (length (now r)) n (now table)
+        × (length (now r) ≡ rowsOf (p .second) (length (now times)) (length (now counts))) × (k < n) ⌝ }
+    ensures { λ k′. ⌜ Filled k′ (now (table .exit)) (columnOf (epsOf (p .second)) (residuals (p .second) (p .station) (passesOf (now (counts .entry)) (now (times .entry)) (now (freqs .entry))))
+        (p .params) (now (r .entry)) (length (now (r .entry))) n k (now (table .entry))) ⌝ }
 {
+    let second = p.second;
+    let g = p.station;
+    let x = p.params;
     let eps = param_eps(second, k);
     let y = perturbed(x, k, eps);
     let mut column = [0.0; ROWS];
@@ -104,24 +112,22 @@ fn jacobian_column(
 
 // The table, column by column, or the first refusal of a moved set's residuals.
 fn jacobian(
-    second: bool,
+    p: Point,
     counts: &[u32],
     times: &[u64],
     freqs: &[f64],
     turns: &[f64],
-    g: Station,
-    x: [f64; PARAMS],
     r: &[f64],
     n: usize,
     table: &mut [f64],
 ) -> u32
-    requires { ⌜ Samples g (passesOf (now counts) (now times) (now freqs)) (now turns) × Grid (length (now r)) n (now table)
-        × (length (now r) ≡ rowsOf second (length (now times)) (length (now counts))) ⌝ }
-    ensures { λ k. ⌜ Filled k (now (table .exit)) (try 0 n (columnOf (epsOf second) (residuals second g (passesOf (now (counts .entry)) (now (times .entry)) (now (freqs .entry))))
-        x (now (r .entry)) (length (now (r .entry))) n) (now (table .entry))) ⌝ }
+    requires { ⌜ Samples (p .station) (passesOf (now counts) (now times) (now freqs)) (now turns) × Grid (length (now r)) n (now table)
+        × (length (now r) ≡ rowsOf (p .second) (length (now times)) (length (now counts))) ⌝ }
+    ensures { λ k. ⌜ Filled k (now (table .exit)) (try 0 n (columnOf (epsOf (p .second)) (residuals (p .second) (p .station) (passesOf (now (counts .entry)) (now (times .entry)) (now (freqs .entry))))
+        (p .params) (now (r .entry)) (length (now (r .entry))) n) (now (table .entry))) ⌝ }
 {
     for k in 0..n {
-        let refusal = jacobian_column(second, counts, times, freqs, turns, g, x, r, n, k, table);
+        let refusal = jacobian_column(p, counts, times, freqs, turns, r, n, k, table);
         if refusal != 0 {
             return refusal;
         }
@@ -129,38 +135,27 @@ fn jacobian(
     0
 }
 
-// Table and step from the set params, its residuals r and the damping lambda. The table lies in the first places of scratch; what
+// Table and step from the set p, its residuals r and the damping lambda. The table lies in the first places of scratch; what
 // is left in them is not promised, since the fit clears it.
 pub fn advance(
-    second: bool,
+    p: Point,
     counts: &[u32],
     times: &[u64],
     freqs: &[f64],
     turns: &[f64],
-    g: Station,
-    params: [f64; PARAMS],
     lambda: f64,
     r: &[f64],
     scratch: &mut [f64],
 ) -> Stepped
-    requires { ⌜ Ready second g (passesOf (now counts) (now times) (now freqs)) (now turns) params (now r) (length (now scratch)) ⌝ }
-    ensures { λ s. ⌜ Advances (cellsOf second (passesOf (now (counts .entry)) (now (times .entry)) (now (freqs .entry))))
-        (advanceOf second g (passesOf (now (counts .entry)) (now (times .entry)) (now (freqs .entry))) lambda params) (now (scratch .entry)) (now (scratch .exit)) s ⌝ }
+    requires { ⌜ Ready (p .second) (p .station) (passesOf (now counts) (now times) (now freqs)) (now turns) (p .params) (now r) (length (now scratch)) ⌝ }
+    ensures { λ s. ⌜ Advances (cellsOf (p .second) (passesOf (now (counts .entry)) (now (times .entry)) (now (freqs .entry))))
+        (advanceOf (p .second) (p .station) (passesOf (now (counts .entry)) (now (times .entry)) (now (freqs .entry))) lambda (p .params)) (now (scratch .entry)) (now (scratch .exit)) s ⌝ }
 {
+    let second = p.second;
+    let params = p.params;
     let n = residuals::place_of(second, counts.len());
     let cells = r.len() * n;
-    let refusal = jacobian(
-        second,
-        counts,
-        times,
-        freqs,
-        turns,
-        g,
-        params,
-        r,
-        n,
-        &mut scratch[..cells],
-    );
+    let refusal = jacobian(p, counts, times, freqs, turns, r, n, &mut scratch[..cells]);
     if refusal != 0 {
         return Stepped {
             step: Step::Refused(refusal),

@@ -13,12 +13,12 @@ use Rattle.refine.proofs.jacobian.Statement.{statement}
 use Rattle.refine.proofs.jacobian.Tie as tie
 
 abbrev Inv-loop : tie.InvT-loop
-Inv-loop second counts times freqs turns g x r n table₀ k₀ table k =
-    (k ≤ n) × Grid (length r) n table × Tries k n (columnOf (epsOf second) (residuals second g (passesOf counts times freqs)) x r (length r) n) table
-    (try 0 n (columnOf (epsOf second) (residuals second g (passesOf counts times freqs)) x r (length r) n) table₀)
+Inv-loop p counts times freqs turns r n table₀ k₀ table k =
+    (k ≤ n) × Grid (length r) n table × Tries k n (columnOf (epsOf (p .second)) (residuals (p .second) (p .station) (passesOf counts times freqs)) (p .params) r (length r) n) table
+    (try 0 n (columnOf (epsOf (p .second)) (residuals (p .second) (p .station) (passesOf counts times freqs)) (p .params) r (length r) n) table₀)
 
 abbrev μ-loop : tie.MeasureT-loop
-μ-loop second counts times freqs turns g x r n table₀ k₀ table k = n - k
+μ-loop p counts times freqs turns r n table₀ k₀ table k = n - k
 
 loop-again : tie.Need-loop-again Inv-loop μ-loop
 loop-again c =

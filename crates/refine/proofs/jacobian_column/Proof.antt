@@ -11,12 +11,12 @@ use Rattle.refine.proofs.jacobian_column.Tie as tie
 
 perturbed-requires : tie.Need-perturbed-requires
 perturbed-requires c κs =
-    let pre = c .before .before .before .before .before .before .before .pre in
+    let pre = c .before .before .before .before .before .before .before .before .before .pre in
     omega (arith, pre .1 .narrow, pre .3)
 
 residuals-into-requires : tie.Need-residuals-into-requires
 residuals-into-requires c κs =
-    let pre = c .before .before .before .before .before .before .before .before .before .pre in
+    let pre = c .before .before .before .before .before .before .before .before .before .before .before .pre in
     (pre .0, omega (arith, pre .0 .few, pre .0 .small))
 
 returns : tie.Need-returns
@@ -26,14 +26,14 @@ returns c =
     column-far (epsOf _) (residuals _ _ _) _ _ _ _ _ _ _ _ (moved .before .param-eps .ensures) (moved .perturbed .ensures) (called .residuals-into .result) _ _ (c .if1 .taken) (called .residuals-into .ensures)
 
 array-share-prefix-column : tie.Need-array-share-prefix-column
-array-share-prefix-column c = omega (arith, c .before .before .before .before .before .before .before .before .before .before .before .before .pre .1 .few)
+array-share-prefix-column c = omega (arith, c .before .before .before .before .before .before .before .before .before .before .before .before .before .before .pre .1 .few)
 
 slice-aggregate-put-column : tie.Need-slice-aggregate-put-column
-slice-aggregate-put-column c = sym (length-take-le _ _ (omega (arith, c .before .before .before .before .before .before .before .before .before .before .before .before .before .pre .1 .few)))
+slice-aggregate-put-column c = sym (length-take-le _ _ (omega (arith, c .before .before .before .before .before .before .before .before .before .before .before .before .before .before .before .pre .1 .few)))
 
 put-column-requires : tie.Need-put-column-requires
 put-column-requires c κs =
-    let pre = c .before .before .before .before .before .before .before .before .before .before .before .before .before .before .pre in
+    let pre = c .before .before .before .before .before .before .before .before .before .before .before .before .before .before .before .before .pre in
     (pre .1, length-take-le _ _ (omega (arith, pre .1 .few)), pre .3)
 
 returns-2 : tie.Need-returns-2
@@ -42,7 +42,7 @@ returns-2 c =
     let past = put .before .before .before in
     let called = past .before .before in
     let moved = called .before .before in
-    let pre = moved .before .before .before .before .before .before .before .before .pre in
+    let pre = moved .before .before .before .before .before .before .before .before .before .before .pre in
     column-put (epsOf _) (residuals _ _ _) _ _ _ _ _ _ _ _ (moved .before .param-eps .ensures) (moved .perturbed .ensures) (called .residuals-into .result) _ _ _ (past .if1 .left)
     (called .residuals-into .ensures) (pre .2) (put .put-column .ensures)
 
