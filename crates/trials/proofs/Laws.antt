@@ -10,12 +10,13 @@ use lib.Seq.{drop-cons, set-at, length-take-le}
 use lib.Ieee.{Float, nan, lt}
 use Rattle.refusal.specs.Numbers as refusal
 use Rattle.float.specs.Ops.{_⊗_, _⊘_, bits}
+use Rattle.orbit.specs.declared.doppler.Station.{Station}
 use Rattle.residuals.specs.Samples.{Passes}
 use Rattle.residuals.specs.Residuals.{each, sumOf, residuals, penalisedSum}
-use Rattle.residuals.specs.Answers.{sumAnswer, filled, refusalOf, Summed, Filled}
-use Rattle.residuals.specs.declared.Station.{Station}
+use Rattle.residuals.specs.Answers.{sumAnswer, refusalOf, Summed, Filled}
 use Rattle.residuals.specs.declared.Sum.{Sum}
 use Rattle.residuals.specs.declared.Sum.the-variants.{Value, Refused}
+use Rattle.residuals.proofs.Laws.{filled-not}
 use Rattle.normal.specs.Step.{Outcome, next, short, refused}
 use Rattle.normal.specs.Answers.{outcome}
 use Rattle.normal.specs.declared.Step.{Step}
@@ -46,10 +47,6 @@ known-of : (w : Option (List Float)) (xs : List Float) (v : Float) → each sumO
 known-of none xs v e h = cc
 known-of (some ys) xs v e h = h
 
-not-zero : (n : ℕ) (xs : List Float) → (n ≡ 0 → ⊥) → filled n xs ≡ none
-not-zero zero xs h = absurd (h refl)
-not-zero (suc n) xs h = refl
-
 module _ (second : Bool) (g : Station) (d : Passes) (x : List Float) where
   -- the sum is the definition's, and the residuals are there
   pub summed : (xs : List Float) (v : Float) (r : Sum) → Summed xs (residuals second g d x) r → Value v ≡ r → penalisedSum second g d x ≡ some v
@@ -75,7 +72,7 @@ module _ (second : Bool) (g : Station) (d : Passes) (x : List Float) where
   filled-known n xs f z = rw z at (f .written)
 
   filled-far : (n : ℕ) (xs : List Float) → Filled n xs (residuals second g d x) → (n ≡ 0 → ⊥) → none ≡ residuals second g d x
-  filled-far n xs f h = sym (not-zero n xs h) ∙ f .written
+  filled-far n xs f h = sym (filled-not n xs h) ∙ f .written
 
   -- ---- what follows a trial
 

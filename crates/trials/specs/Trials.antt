@@ -6,10 +6,10 @@ use mathlib.Core.Option.{Option, none, some}
 use Prim.Native.Nat.{ℕ, _+_, _*_, _≤_}
 use lib.ListN.{length, take, drop}
 use lib.Ieee.{Float, lt}
+use Rattle.orbit.specs.declared.doppler.Station.{Station}
 use Rattle.residuals.specs.Samples.{Passes, Samples}
 use Rattle.residuals.specs.Residuals.{each, rowsOf, residuals, penalisedSum}
 use Rattle.residuals.specs.Answers.{Summed}
-use Rattle.residuals.specs.declared.Station.{Station}
 use Rattle.normal.specs.Step.{Outcome}
 use Rattle.normal.specs.Answers.{outcome}
 use Rattle.refine.specs.Advance.{advanceOf, cellsOf}

@@ -14,10 +14,18 @@ ghost use Rattle.book.specs.Book.{openBook, judged, arrival, onward, book};
 ghost use Rattle.trials.specs.Trials.{stateSearch, stateAfter, Fits, Tries, Held, Arrives, Follows, Runs};
 use book::Ending;
 use normal::Step;
+use orbit::doppler::Station;
+use refine::Point;
 use residuals::PARAMS;
 use residuals::ROWS;
-use residuals::Station;
 use residuals::Sum;
+
+// Which refinement, whether its residuals are enough for a step, and what its predictions share.
+pub struct Refinement {
+    pub second: bool,
+    pub enough: bool,
+    pub station: Station,
+}
 
 // The set to try next, the best sum with its set, the damping, and whether the refinement has ended.
 pub struct State {
@@ -191,25 +199,27 @@ fn arrive(s: State, params: [f64; PARAMS], step: Step) -> Followed
     }
 }
 
-// The residuals of the set x go to the first places of r, where they lie already if they are known; or refusal 23.
+// The residuals of the set p go to the first places of r, where they lie already if they are known; or refusal 23.
 fn at_hand(
-    second: bool,
+    p: Point,
     known: bool,
     counts: &[u32],
     times: &[u64],
     freqs: &[f64],
     turns: &[f64],
-    g: Station,
-    x: [f64; PARAMS],
     r: &mut [f64],
 ) -> u32
-    requires { ⌜ Samples g (passesOf (now counts) (now times) (now freqs)) (now turns) × Held second known g (passesOf (now counts) (now times) (now freqs)) x (now r) ⌝ }
-    ensures { λ k. ⌜ Filled k (take (rowsOf second (length (now (times .entry))) (length (now (counts .entry)))) (now (r .exit)))
-        (residuals second g (passesOf (now (counts .entry)) (now (times .entry)) (now (freqs .entry))) x) ⌝ }
+    requires { ⌜ Samples (p .station) (passesOf (now counts) (now times) (now freqs)) (now turns)
+        × Held (p .second) known (p .station) (passesOf (now counts) (now times) (now freqs)) (p .params) (now r) ⌝ }
+    ensures { λ k. ⌜ Filled k (take (rowsOf (p .second) (length (now (times .entry))) (length (now (counts .entry)))) (now (r .exit)))
+        (residuals (p .second) (p .station) (passesOf (now (counts .entry)) (now (times .entry)) (now (freqs .entry))) (p .params)) ⌝ }
 {
     if known {
         return 0;
     }
+    let second = p.second;
+    let g = p.station;
+    let x = p.params;
     residuals::residuals_into(second, counts, times, freqs, turns, g, x, r)
 }
 
@@ -217,40 +227,45 @@ fn at_hand(
 // out again where the best one was restored; whether they are enough; table and step. The table lies in the first places of
 // scratch.
 pub fn follow(
-    second: bool,
-    enough: bool,
-    known: bool,
+    w: Refinement,
     counts: &[u32],
     times: &[u64],
     freqs: &[f64],
     turns: &[f64],
-    g: Station,
-    s: State,
+    t: Tried,
     r: &mut [f64],
     scratch: &mut [f64],
 ) -> Followed
-    requires { ⌜ Fits second g (passesOf (now counts) (now times) (now freqs)) (now turns) (length (now scratch))
-        × Held second known g (passesOf (now counts) (now times) (now freqs)) (s .params) (now r) ⌝ }
-    ensures { λ f. ⌜ Follows second enough g (passesOf (now (counts .entry)) (now (times .entry)) (now (freqs .entry))) (stateSearch s)
+    requires { ⌜ Fits (w .second) (w .station) (passesOf (now counts) (now times) (now freqs)) (now turns) (length (now scratch))
+        × Held (w .second) (t .kept) (w .station) (passesOf (now counts) (now times) (now freqs)) (t .state .params) (now r) ⌝ }
+    ensures { λ f. ⌜ Follows (w .second) (w .enough) (w .station) (passesOf (now (counts .entry)) (now (times .entry)) (now (freqs .entry))) (stateSearch (t .state))
         (now (r .exit)) (now (scratch .entry)) (now (scratch .exit)) f ⌝ }
 {
+    let second = w.second;
+    let enough = w.enough;
+    let station = w.station;
+    let known = t.kept;
+    let s = t.state;
+    let params = s.params;
     let rows = residuals::rows_of(second, times.len(), counts.len());
-    let x = s.params;
-    let number = at_hand(second, known, counts, times, freqs, turns, g, x, r);
+    let p = Point {
+        second,
+        station,
+        params,
+    };
+    let number = at_hand(p, known, counts, times, freqs, turns, r);
     if number != 0 {
-        return arrive(s, x, Step::Refused(number));
+        return arrive(s, params, Step::Refused(number));
     }
     if !enough {
-        return arrive(s, x, Step::Short);
+        return arrive(s, params, Step::Short);
     }
     let moved = refine::advance(
-        second,
+        p,
         counts,
         times,
         freqs,
         turns,
-        g,
-        x,
         s.damping,
         &r[..rows],
         scratch,
@@ -262,23 +277,23 @@ pub fn follow(
 
 // A refinement from the set `start`: at most `most` trials, each sum written to the log.
 pub fn refine_trials(
-    second: bool,
-    enough: bool,
+    w: Refinement,
     most: usize,
     counts: &[u32],
     times: &[u64],
     freqs: &[f64],
     turns: &[f64],
-    g: Station,
     start: [f64; PARAMS],
     log: &mut [f64],
     scratch: &mut [f64],
 ) -> Trials
-    requires { ⌜ Fits second g (passesOf (now counts) (now times) (now freqs)) (now turns) (length (now scratch)) × (most ≤ length (now log)) × (most ≤ 150) ⌝ }
-    ensures { λ t. ⌜ Runs (book (penalisedSum second g (passesOf (now (counts .entry)) (now (times .entry)) (now (freqs .entry))))
-        (advanceOf second g (passesOf (now (counts .entry)) (now (times .entry)) (now (freqs .entry)))) enough start most) (now (log .entry)) (now (log .exit))
-        (cellsOf second (passesOf (now (counts .entry)) (now (times .entry)) (now (freqs .entry)))) (now (scratch .entry)) (now (scratch .exit)) t ⌝ }
+    requires { ⌜ Fits (w .second) (w .station) (passesOf (now counts) (now times) (now freqs)) (now turns) (length (now scratch)) × (most ≤ length (now log)) × (most ≤ 150) ⌝ }
+    ensures { λ t. ⌜ Runs (book (penalisedSum (w .second) (w .station) (passesOf (now (counts .entry)) (now (times .entry)) (now (freqs .entry))))
+        (advanceOf (w .second) (w .station) (passesOf (now (counts .entry)) (now (times .entry)) (now (freqs .entry)))) (w .enough) start most) (now (log .entry)) (now (log .exit))
+        (cellsOf (w .second) (passesOf (now (counts .entry)) (now (times .entry)) (now (freqs .entry)))) (now (scratch .entry)) (now (scratch .exit)) t ⌝ }
 {
+    let second = w.second;
+    let g = w.station;
     let mut s = open(start);
     let mut n = 0usize;
     while n < most {
@@ -296,19 +311,7 @@ pub fn refine_trials(
         let Ending::Running = e else {
             break;
         };
-        let f = follow(
-            second,
-            enough,
-            t.kept,
-            counts,
-            times,
-            freqs,
-            turns,
-            g,
-            after,
-            &mut r,
-            scratch,
-        );
+        let f = follow(w, counts, times, freqs, turns, t, &mut r, scratch);
         let reached = f.state;
         s = reached;
         let step = f.step;

@@ -9,7 +9,7 @@ returns : tie.Need-returns
 returns c =
     let s = c .before .before .before .before .before .before in
     let a = s .args in
-    known-filled (a .second) (a .g) (passesOf (a .counts .now) (a .times .now) (a .freqs .now)) (a .x) _ (s .pre .1 .held (c .if1 .taken))
+    known-filled (a .p .second) (a .p .station) (passesOf (a .counts .now) (a .times .now) (a .freqs .now)) (a .p .params) _ (s .pre .1 .held (c .if1 .taken))
 
 pub at-hand-spec : {M : Type 1} → statement M
 at-hand-spec = tie.close (tie.spec returns (λ c κs. search needs) (λ c. search needs) (λ c. search needs))

@@ -15,36 +15,36 @@ use Rattle.trials.proofs.refine_trials.Statement.{statement}
 use Rattle.trials.proofs.refine_trials.Tie as tie
 
 abbrev Inv-loop : tie.InvT-loop
-Inv-loop second enough most counts times freqs turns g log₀ scratch₀ s₀ n₀ log scratch s n =
-    Inv (penalisedSum second g (passesOf counts times freqs)) (advanceOf second g (passesOf counts times freqs)) enough most (s₀ .params) log₀ log s n
+Inv-loop w most counts times freqs turns log₀ scratch₀ second g s₀ n₀ log scratch s n =
+    Inv (penalisedSum (w .second) (w .station) (passesOf counts times freqs)) (advanceOf (w .second) (w .station) (passesOf counts times freqs)) (w .enough) most (s₀ .params) log₀ log s n
     × (length scratch ≡ length scratch₀)
-    × (drop (cellsOf second (passesOf counts times freqs)) scratch ≡ drop (cellsOf second (passesOf counts times freqs)) scratch₀)
+    × (drop (cellsOf (w .second) (passesOf counts times freqs)) scratch ≡ drop (cellsOf (w .second) (passesOf counts times freqs)) scratch₀)
 
 abbrev μ-loop : tie.MeasureT-loop
-μ-loop second enough most counts times freqs turns g log₀ scratch₀ s₀ n₀ log scratch s n = most - n
+μ-loop w most counts times freqs turns log₀ scratch₀ second g s₀ n₀ log scratch s n = most - n
 
 loop-holds : tie.Need-loop-holds Inv-loop μ-loop
 loop-holds c = (opens-from _ _ (c .open .ensures) _ _ _ _ _, refl, refl)
 
 trial-requires : tie.Need-trial-requires Inv-loop μ-loop
 trial-requires c κs =
-    let s = c .before .before .before .before .before .before .before .before .before .before in
+    let s = c .before .before .before .before .before .before .before .before .before .before .before in
     (s .pre .0 .samples, omega (arith, s .pre .0 .samples .few, s .pre .0 .samples .small))
 
 mul-log : tie.Need-mul-log Inv-loop μ-loop
 mul-log c =
     let q = c .before .before .before .before .before .before .before in
-    record { fits = omega (arith, q .loop-test .taken, q .before .before .before .before .before .before .before .before .before .pre .2) }
+    record { fits = omega (arith, q .loop-test .taken, q .before .before .before .before .before .before .before .before .before .before .pre .2) }
 
 slice-write-log : tie.Need-slice-write-log Inv-loop μ-loop
 slice-write-log c =
     let q = c .before .before .before .before .before .before .before in
-    omega (arith, q .loop-test .taken, q .before .before .before .before .before .before .before .before .before .pre .1, q .before .loop .inv .0 .same)
+    omega (arith, q .loop-test .taken, q .before .before .before .before .before .before .before .before .before .before .pre .1, q .before .loop .inv .0 .same)
 
 add-n : tie.Need-add-n Inv-loop μ-loop
 add-n c =
     let q = c .before .before .before .before .before .before .before in
-    record { fits = omega (arith, q .loop-test .taken, q .before .before .before .before .before .before .before .before .before .pre .2) }
+    record { fits = omega (arith, q .loop-test .taken, q .before .before .before .before .before .before .before .before .before .before .pre .2) }
 
 follow-requires : tie.Need-follow-requires Inv-loop μ-loop
 follow-requires c κs =
@@ -52,12 +52,12 @@ follow-requires c κs =
     let u = v .before .before .before .before in
     let q = u .before .before in
     let h = q .before in
-    let s = h .before .before .before .before .before .before .before .before in
+    let s = h .before .before .before .before .before .before .before .before .before in
     let a = s .args in (
       record { samples = s .pre .0 .samples; table = rw (h .loop .inv .1) (s .pre .0 .table) },
       record {
         room = omega (arith, s .pre .0 .samples .few, s .pre .0 .samples .small, u .trial .kept .1 .1 .1 .1 .1 .1 .1 .0);
-        held = λ k. kept-held (a .second) (a .g) (passesOf (a .counts .now) (a .times .now) (a .freqs .now)) _ _ _ _ (u .trial .ensures) (sym (v .answer .given .1)) k;
+        held = λ k. kept-held (a .w .second) (a .w .station) (passesOf (a .counts .now) (a .times .now) (a .freqs .now)) _ _ _ _ (u .trial .ensures) (sym (v .answer .given .1)) k;
       },
     )
 
@@ -72,11 +72,11 @@ loop-again c =
     let u = v .before .before .before .before in
     let q = u .before .before in
     let h = q .before in
-    let s = h .before .before .before .before .before .before .before .before in
+    let s = h .before .before .before .before .before .before .before .before .before in
     let a = s .args in (
-      goes-on _ _ _ _ _ _ _ _ _ (h .loop .inv .0) (q .loop-test .taken) (s .pre .1) _ (u .trial .ensures .after) _ (summed (a .second) (a .g) (passesOf (a .counts .now) (a .times .now) (a .freqs .now)) (h .loop .s .params) _ _ _ (u .trial .ensures .summed) (sym (v .answer .given .1))) _ (r .enum-told2 .given .1) (w .follow .ensures .arrives)
+      goes-on _ _ _ _ _ _ _ _ _ (h .loop .inv .0) (q .loop-test .taken) (s .pre .1) _ (u .trial .ensures .after) _ (summed (a .w .second) (a .w .station) (passesOf (a .counts .now) (a .times .now) (a .freqs .now)) (h .loop .s .params) _ _ _ (u .trial .ensures .summed) (sym (v .answer .given .1))) _ (r .enum-told2 .given .1) (w .follow .ensures .arrives)
           (goes-large _ _ _ (w .follow .ensures .arrives) _ (c .before .before .step .given .1) (c .if1 .left)),
-      w .follow .kept .1 .1 .1 .1 .1 .1 .1 .1 .1 .1 .0 ∙ h .loop .inv .1,
+      w .follow .kept .1 .1 .1 .1 .1 .1 .1 .0 ∙ h .loop .inv .1,
       w .follow .ensures .behind ∙ h .loop .inv .2,
     )
 
@@ -90,10 +90,10 @@ returns-2 c =
     let u = c .before .before .before .before in
     let q = u .before .before in
     let h = q .before in
-    let s = h .before .before .before .before .before .before .before .before in
+    let s = h .before .before .before .before .before .before .before .before .before in
     let a = s .args in
     record {
-      runs = rw (started _ _ (h .before .open .ensures)) at (stops-far _ _ _ _ _ _ _ _ _ (h .loop .inv .0) (q .loop-test .taken) (s .pre .1) _ (u .trial .ensures .after) (summed-far (a .second) (a .g) (passesOf (a .counts .now) (a .times .now) (a .freqs .now)) (h .loop .s .params) _ _ _ (u .trial .ensures .summed) (sym (c .enum-told .given .1))));
+      runs = rw (started _ _ (h .before .open .ensures)) at (stops-far _ _ _ _ _ _ _ _ _ (h .loop .inv .0) (q .loop-test .taken) (s .pre .1) _ (u .trial .ensures .after) (summed-far (a .w .second) (a .w .station) (passesOf (a .counts .now) (a .times .now) (a .freqs .now)) (h .loop .s .params) _ _ _ (u .trial .ensures .summed) (sym (c .enum-told .given .1))));
       behind = h .loop .inv .2;
     }
 
@@ -103,10 +103,10 @@ returns-3 c =
     let u = v .before .before .before .before in
     let q = u .before .before in
     let h = q .before in
-    let s = h .before .before .before .before .before .before .before .before in
+    let s = h .before .before .before .before .before .before .before .before .before in
     let a = s .args in
     record {
-      runs = rw (started _ _ (h .before .open .ensures)) at (stops-tried _ _ _ _ _ _ _ _ _ (h .loop .inv .0) (q .loop-test .taken) (s .pre .1) _ (u .trial .ensures .after) _ (summed (a .second) (a .g) (passesOf (a .counts .now) (a .times .now) (a .freqs .now)) (h .loop .s .params) _ _ _ (u .trial .ensures .summed) (sym (v .answer .given .1))) (ended-of _ (c .match2 .keys2)));
+      runs = rw (started _ _ (h .before .open .ensures)) at (stops-tried _ _ _ _ _ _ _ _ _ (h .loop .inv .0) (q .loop-test .taken) (s .pre .1) _ (u .trial .ensures .after) _ (summed (a .w .second) (a .w .station) (passesOf (a .counts .now) (a .times .now) (a .freqs .now)) (h .loop .s .params) _ _ _ (u .trial .ensures .summed) (sym (v .answer .given .1))) (ended-of _ (c .match2 .keys2)));
       behind = h .loop .inv .2;
     }
 
@@ -118,10 +118,10 @@ returns-4 c =
     let u = v .before .before .before .before in
     let q = u .before .before in
     let h = q .before in
-    let s = h .before .before .before .before .before .before .before .before in
+    let s = h .before .before .before .before .before .before .before .before .before in
     let a = s .args in
     record {
-      runs = rw (started _ _ (h .before .open .ensures)) at (stops-followed _ _ _ _ _ _ _ _ _ (h .loop .inv .0) (q .loop-test .taken) (s .pre .1) _ (u .trial .ensures .after) _ (summed (a .second) (a .g) (passesOf (a .counts .now) (a .times .now) (a .freqs .now)) (h .loop .s .params) _ _ _ (u .trial .ensures .summed) (sym (v .answer .given .1))) _ (r .enum-told2 .given .1) (w .follow .ensures .arrives)
+      runs = rw (started _ _ (h .before .open .ensures)) at (stops-followed _ _ _ _ _ _ _ _ _ (h .loop .inv .0) (q .loop-test .taken) (s .pre .1) _ (u .trial .ensures .after) _ (summed (a .w .second) (a .w .station) (passesOf (a .counts .now) (a .times .now) (a .freqs .now)) (h .loop .s .params) _ _ _ (u .trial .ensures .summed) (sym (v .answer .given .1))) _ (r .enum-told2 .given .1) (w .follow .ensures .arrives)
           (stops-other _ _ _ (w .follow .ensures .arrives) (stops-of _ (c .match3 .keys2))));
       behind = w .follow .ensures .behind ∙ h .loop .inv .2;
     }
@@ -134,10 +134,10 @@ returns-5 c =
     let u = v .before .before .before .before in
     let q = u .before .before in
     let h = q .before in
-    let s = h .before .before .before .before .before .before .before .before in
+    let s = h .before .before .before .before .before .before .before .before .before in
     let a = s .args in
     record {
-      runs = rw (started _ _ (h .before .open .ensures)) at (stops-followed _ _ _ _ _ _ _ _ _ (h .loop .inv .0) (q .loop-test .taken) (s .pre .1) _ (u .trial .ensures .after) _ (summed (a .second) (a .g) (passesOf (a .counts .now) (a .times .now) (a .freqs .now)) (h .loop .s .params) _ _ _ (u .trial .ensures .summed) (sym (v .answer .given .1))) _ (r .enum-told2 .given .1) (w .follow .ensures .arrives)
+      runs = rw (started _ _ (h .before .open .ensures)) at (stops-followed _ _ _ _ _ _ _ _ _ (h .loop .inv .0) (q .loop-test .taken) (s .pre .1) _ (u .trial .ensures .after) _ (summed (a .w .second) (a .w .station) (passesOf (a .counts .now) (a .times .now) (a .freqs .now)) (h .loop .s .params) _ _ _ (u .trial .ensures .summed) (sym (v .answer .given .1))) _ (r .enum-told2 .given .1) (w .follow .ensures .arrives)
           (stops-small _ _ _ (w .follow .ensures .arrives) _ (c .before .before .step .given .1) (c .if1 .taken)));
       behind = w .follow .ensures .behind ∙ h .loop .inv .2;
     }
@@ -146,13 +146,13 @@ same-length-7 : tie.Need-same-length-7 Inv-loop μ-loop
 same-length-7 c = simp length-set (c .before .before .before .before .before .before .before .before .before .before .before .before .before .before .before .before .before .before .loop .inv .0 .same)
 
 same-length-8 : tie.Need-same-length-8 Inv-loop μ-loop
-same-length-8 c = c .before .before .before .before .before .follow .kept .1 .1 .1 .1 .1 .1 .1 .1 .1 .1 .0 ∙ c .before .before .before .before .before .before .before .before .before .before .before .before .before .before .before .before .before .before .loop .inv .1
+same-length-8 c = c .before .before .before .before .before .follow .kept .1 .1 .1 .1 .1 .1 .1 .0 ∙ c .before .before .before .before .before .before .before .before .before .before .before .before .before .before .before .before .before .before .loop .inv .1
 
 same-length-9 : tie.Need-same-length-9 Inv-loop μ-loop
 same-length-9 c = simp length-set (c .before .before .before .before .before .before .before .before .before .before .before .before .before .before .before .before .before .before .before .before .before .loop .inv .0 .same)
 
 same-length-10 : tie.Need-same-length-10 Inv-loop μ-loop
-same-length-10 c = c .before .before .before .before .before .before .before .before .follow .kept .1 .1 .1 .1 .1 .1 .1 .1 .1 .1 .0 ∙ c .before .before .before .before .before .before .before .before .before .before .before .before .before .before .before .before .before .before .before .before .before .loop .inv .1
+same-length-10 c = c .before .before .before .before .before .before .before .before .follow .kept .1 .1 .1 .1 .1 .1 .1 .0 ∙ c .before .before .before .before .before .before .before .before .before .before .before .before .before .before .before .before .before .before .before .before .before .loop .inv .1
 
 pub refine-trials-spec : {M : Type 1} → statement M
 refine-trials-spec =
