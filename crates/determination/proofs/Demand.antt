@@ -16,7 +16,8 @@ use Rattle.refusal.specs.Order.{first, _if_}
 use Rattle.moment.specs.declared.Instant.{Instant}
 use Rattle.moment.proofs.Samples.{moment-instant}
 use Rattle.residuals.specs.Residuals.{at, penalisedSum}
-use Rattle.residuals.specs.declared.Station.{Station}
+use Rattle.orbit.specs.Doppler.{stationAt}
+use Rattle.orbit.specs.declared.doppler.Station.{Station}
 use Rattle.book.specs.Book.{Book}
 use Rattle.book.specs.Demand.{largestSum, All, Tried}
 use Rattle.book.proofs.Demand.{tried}
@@ -24,7 +25,7 @@ use Rattle.refine.specs.Advance.{advanceOf}
 use Rattle.arguments.specs.Refusals as given
 use Rattle.arguments.specs.Refusals.{Room, enough, inputRefusalOf}
 use Rattle.arguments.proofs.Laws as arguments
-use Rattle.fit.specs.Fit.{observedStation, observedPasses, refined, trialBook}
+use Rattle.fit.specs.Fit.{observedPasses, refined, trialBook}
 use Rattle.fit.specs.Answer.{
   Arguments,
   observations,
@@ -52,7 +53,7 @@ use Rattle.tle.specs.Answer.{Formats}
 use Rattle.tle.specs.declared.Catalog.{Catalog}
 use Rattle.tle.proofs.Answers.{catalog-length}
 use Rattle.tle.proofs.Printed.{format-printed}
-use Rattle.determination.specs.Demand.{sumIn, stationAt, sumAgain, anyBelow, returnedSet, Accepted, Demand}
+use Rattle.determination.specs.Demand.{sumIn, sumAgain, anyBelow, returnedSet, Accepted, Demand}
 use Rattle.determination.proofs.Sets.{sum-same, returned-agrees, length-biases, over-at}
 
 -- ---- an accepted fit passed every test
@@ -99,7 +100,7 @@ passed x room e =
 
 book-tried : (x : Arguments) → lt largestSum (bookOf x .search .best) ≡ false → Tried (sumIn x) 150 (bookOf x)
 unfolding trialBook refined
-book-tried x low = tried (sumIn x) (advanceOf true (observedStation (observations x)) (observedPasses (observations x))) true _ 150 low
+book-tried x low = tried (sumIn x) (advanceOf true (observations x .station) (observedPasses (observations x))) true _ 150 low
 
 none-below : (sum : List Float → Option Float) (v : Float) (xs : List (List Float)) (l : List Float) → map sum xs ≡ map some l
     → All (λ s. lt s v ≡ false) l → anyBelow sum v xs ≡ false
@@ -130,16 +131,16 @@ module _ (x : Arguments) (w : Outputs) (p : Passed x) (t : Tried (sumIn x) 150 (
   front k old = take-at (biases k best n) (drop (length (biases k best n)) old) n (length-biases k best n)
 
   -- the orbit's epoch is that of the tried sets
-  station-same : stationAt (answered .orbit .epoch) (observations x) ≡ observedStation (observations x)
+  station-same : stationAt (answered .orbit .epoch) (observations x .station .«center_freq») (x .rec) ≡ observations x .station
   station-same =
-      ap (λ (m : Instant). record { epoch = m; «center_freq» = observations x .center; «rec_ecef» = x .rec })
+      ap (λ (m : Instant). record { epoch = m; «center_freq» = observations x .station .«center_freq»; «rec_ecef» = x .rec })
       (moment-instant (getD (x .times) 0 (pos 0)) (p .given .timed .each 0 (omega (arith, p .given .samples))))
 
   again : sumAgain x (answered .orbit) out ≡ some (bookOf x .search .best)
   unfolding sumAgain
   again =
       ap (λ (g : Station). penalisedSum true g (observedPasses (observations x)) (returnedSet (answered .orbit) out n)) station-same
-      ∙ sum-same (observedStation (observations x)) (observedPasses (observations x)) (returnedSet (answered .orbit) out n) best
+      ∙ sum-same (observations x .station) (observedPasses (observations x)) (returnedSet (answered .orbit) out n) best
       (returned-agrees best n (answered .orbit) out
       (record {
         dt = λ q h. over-at 0 best n (w .dts) q h ∙ ap (at best) (omega arith);

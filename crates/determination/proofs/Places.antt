@@ -17,7 +17,7 @@ use Rattle.loops.specs.Loop.{turns, for}
 use Rattle.linear.specs.Elimination.{solutionOf}
 use Rattle.residuals.specs.Samples.{Passes}
 use Rattle.residuals.specs.Residuals.{at, placeOf, rowsOf, residuals, penalisedSum}
-use Rattle.residuals.specs.declared.Station.{Station}
+use Rattle.orbit.specs.declared.doppler.Station.{Station}
 use Rattle.normal.specs.Normal.{jtjOf, jtrOf}
 use Rattle.normal.specs.Step.{
   Outcome,

@@ -30,7 +30,7 @@ use Rattle.residuals.specs.Residuals.{
   sumOf,
   penalisedSum,
 }
-use Rattle.residuals.specs.declared.Station.{Station}
+use Rattle.orbit.specs.declared.doppler.Station.{Station}
 use Rattle.solution.specs.declared.SolvedOrbit.{SolvedOrbit}
 use Rattle.fit.specs.Answer.{biases, Outputs, over}
 use Rattle.determination.specs.Demand.{biasesFrom, returnedSet}

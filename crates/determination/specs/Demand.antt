@@ -7,13 +7,11 @@ use Prim.Native.Nat.{ℕ, zero, suc, _+_, _≤_}
 use lib.ListN.{length, take, drop}
 use lib.Ieee.{Float, lt, le}
 use Rattle.float.specs.Ops.{largest}
-use Rattle.moment.specs.Time.{secondsOf}
-use Rattle.moment.specs.declared.Moment.{Moment}
+use Rattle.orbit.specs.Doppler.{stationAt}
 use Rattle.residuals.specs.Residuals.{at, penalisedSum}
-use Rattle.residuals.specs.declared.Station.{Station}
 use Rattle.book.specs.Demand.{largestSum, Falling, minima, keptSets, lastOf, lastSet}
 use Rattle.solution.specs.declared.SolvedOrbit.{SolvedOrbit}
-use Rattle.fit.specs.Fit.{Observations, observedStation, observedPasses}
+use Rattle.fit.specs.Fit.{observedPasses}
 use Rattle.fit.specs.Answer.{Arguments, observations, passCount, bookOf, biases, orbitOf, Outputs}
 use Rattle.fit.specs.declared.Fit.{Fit}
 use Rattle.tle.specs.Lines.{catalogOf}
@@ -23,7 +21,7 @@ use Rattle.tle.specs.Printed.{Printed}
 
 -- what a trial of the second refinement compares, from the fit's arguments and a set
 abbrev pub sumIn : Arguments → List Float → Option Float
-sumIn x = penalisedSum true (observedStation (observations x)) (observedPasses (observations x))
+sumIn x = penalisedSum true (observations x .station) (observedPasses (observations x))
 
 -- the set that a caller holds: the orbit's four numbers, and four biases for each of n passes, from pass p on, out of four slices
 unfoldable pub biasesFrom : Outputs → ℕ → ℕ → List Float
@@ -33,13 +31,9 @@ biasesFrom w p (suc n) = at (w .dts) p ∷ at (w .dfs) p ∷ at (w .df1s) p ∷ 
 unfoldable pub returnedSet : SolvedOrbit → Outputs → ℕ → List Float
 returnedSet o w n = o .a ∷ o .i ∷ o .raan0 ∷ o .u0 ∷ biasesFrom w 0 n
 
--- the same samples, with an orbit's own epoch
-abbrev pub stationAt : Moment → Observations → Station
-stationAt m x = record { epoch = record { secs = secondsOf (m .seconds); nanos = m .nanos }; «center_freq» = x .center; «rec_ecef» = x .rec }
-
--- its penalised sum, from the samples, the returned orbit and the returned biases alone
+-- its penalised sum, from the samples, the returned orbit with its own epoch, and the returned biases alone
 unfoldable pub sumAgain : Arguments → SolvedOrbit → Outputs → Option Float
-sumAgain x o w = penalisedSum true (stationAt (o .epoch) (observations x)) (observedPasses (observations x)) (returnedSet o w (passCount x))
+sumAgain x o w = penalisedSum true (stationAt (o .epoch) (observations x .station .«center_freq») (x .rec)) (observedPasses (observations x)) (returnedSet o w (passCount x))
 
 -- whether one of these sets has a sum below v
 abbrev pub isBelow : Float → Option Float → Bool

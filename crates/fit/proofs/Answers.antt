@@ -5,15 +5,19 @@ use mathlib.Core.List.{List, [], _∷_}
 use Prim.Native.Nat.{ℕ, zero, suc, _≤_, _<_}
 use native.Mathlib.Omega.{arith}
 use lib.Dec.{eqb}
-use lib.IntN.{ℤ}
-use lib.ListN.{length, take, replicate}
+use lib.IntN.{ℤ, pos}
+use lib.ListN.{length, getD, take, replicate}
 use lib.Seq.{take-at}
 use lib.Ieee.{Float}
 use borrow.Author.Tests.{eqb-true}
 use Rattle.refusal.specs.Numbers as refusal
 use Rattle.refusal.specs.Order.{first, _if_}
 use Rattle.float.specs.Ops.{bits}
+use Rattle.moment.specs.Range.{Within}
+use Rattle.moment.specs.Sample.{instantAt}
+use Rattle.moment.specs.declared.Instant.{Instant}
 use Rattle.frame.specs.declared.Vec3.{Vec3}
+use Rattle.orbit.specs.declared.doppler.Station.{Station}
 use Rattle.book.specs.Book.{Search, Book}
 use Rattle.book.proofs.Books.{counted}
 use Rattle.book.proofs.Demand.{most}
@@ -168,11 +172,11 @@ module _ (x : Arguments) (o : Outputs) (scratch : List Float) (n : ℕ) (h : n �
 
 -- ---- what the fit meets
 
-pub solves-all : (x : Arguments) (counts : List ℕ) (center a : Float) (old sums : List Float) (w : Solved) → counts ≡ nonEmpty (x .counts) → center ≡ centerOf (x .counts) (x .centers)
-    → a ≡ radiusEstimate counts (x .times) (x .freqs) center → Solves (observed counts (x .times) (x .freqs) center (x .rec)) a (x .i) old sums w
+pub solves-all : (x : Arguments) (counts : List ℕ) (epoch : Instant) (center a : Float) (old sums : List Float) (w : Solved) → counts ≡ nonEmpty (x .counts) → epoch ≡ instantAt (getD (x .times) 0 (pos 0)) → center ≡ centerOf (x .counts) (x .centers)
+    → a ≡ radiusEstimate counts (x .times) (x .freqs) center → Solves (observed counts (x .times) (x .freqs) (record { epoch = epoch; «center_freq» = center; «rec_ecef» = x .rec })) a (x .i) old sums w
     → Solves (observations x) (radius (observations x)) (x .i) old sums w
 unfolding radius
-solves-all x counts center a old sums w e f g s = rw (g, e, f) at s
+solves-all x counts epoch center a old sums w e t f g s = rw (g, e, t, f) at s
 
 pub room-said : (x : Arguments) (o : Outputs) (scratch : List Float) (p : ℕ) (r t : Bool) → r ≡ enough (length (x .times)) p (outputRoom o scratch) → p ≡ passCount x → r ≡ t
     → enough (length (x .times)) (passCount x) (outputRoom o scratch) ≡ t
@@ -190,10 +194,10 @@ module _ (x : Arguments) (o : Outputs) (scratch : List Float) (a : Accepted (x .
   pub passes-all : Passes (take (r .passes) (r .counts)) (x .times) (x .freqs) × (0 < length (take (r .passes) (r .counts)))
   passes-all = rw (c .kept) (accepted-passes a, omega (arith, a .passes))
 
-  pub given-all : Given (take (r .passes) (r .counts)) (x .times) (x .freqs) (length scratch)
-  given-all =
+  pub given-all : (g : Station) → Within 0 (g .epoch .secs) (g .epoch .nanos) → Given g (take (r .passes) (r .counts)) (x .times) (x .freqs) (length scratch)
+  given-all g d =
       let m = roomy _ _ _ e in
-      rw (c .kept) (record { set = accepted-passes a; two = a .passes; room = m .scratch-room })
+      rw (c .kept) (record { dated = d; set = accepted-passes a; two = a .passes; room = m .scratch-room })
 
   pub holds : (t : Trials) (old sums : List Float) → RunsTo (bookOf x) old sums t → length sums ≡ 150 → Holds (t .count) (r .passes) (x .times) sums o
   holds t old sums run size =

@@ -13,12 +13,10 @@ use lib.Ieee.{Float}
 use Rattle.refusal.specs.Numbers as refusal
 use Rattle.float.specs.Ops.{bits}
 use Rattle.loops.proofs.Laws.{for-ind}
-use Rattle.moment.specs.declared.Instant.{Instant}
-use Rattle.frame.specs.declared.Vec3.{Vec3}
 use Rattle.orbit.specs.declared.Elements.{Elements}
+use Rattle.orbit.specs.declared.doppler.Station.{Station}
 use Rattle.residuals.specs.Samples.{Passes}
 use Rattle.residuals.specs.Residuals.{placeOf, rowsOf, residuals, penalisedSum}
-use Rattle.residuals.specs.declared.Station.{Station}
 use Rattle.linear.specs.Elimination.{solutionOf}
 use Rattle.normal.specs.Normal.{jtjOf, jtrOf}
 use Rattle.normal.specs.Step.{Outcome, next, refused, damped, scales, scaled, divided, subtractAt, subtracted, held, unscaled, finish, solveStep, dampedStep}
@@ -26,7 +24,7 @@ use Rattle.refine.specs.Jacobian.{epsOf, residualAt, entryOf, anyFar}
 use Rattle.refine.specs.Advance.{advanceOf}
 use Rattle.book.proofs.Sets.{Sets, book-sets}
 use Rattle.start.specs.Start.{withElements, putDt, startingSet}
-use Rattle.fit.specs.Fit.{Observations, observedEpoch, observedStation, observedPasses, refined}
+use Rattle.fit.specs.Fit.{Observations, observedPasses, refined}
 
 -- zeros from place n on, in a set of 68
 pub record Behind (n : ℕ) (x : List Float) : Type 0 where
@@ -105,12 +103,12 @@ elements-behind e (suc (suc zero)) h = absurd (omega arith)
 elements-behind e (suc (suc (suc zero))) h = absurd (omega arith)
 elements-behind e (suc (suc (suc (suc n)))) h = record { zeros = refl }
 
-start-behind : (counts : List ℕ) (times : List ℤ) (freqs : List Float) (center : Float) (rec : Vec3) (epoch : Instant) (e : Elements) (second : Bool)
-    → Behind (placeOf second (length counts)) (startingSet counts times freqs center rec epoch e second)
+start-behind : (counts : List ℕ) (times : List ℤ) (freqs : List Float) (g : Station) (e : Elements) (second : Bool)
+    → Behind (placeOf second (length counts)) (startingSet counts times freqs g e second)
 unfolding startingSet putDt
-start-behind counts times freqs center rec epoch e second =
+start-behind counts times freqs g e second =
     record {
-      zeros = for-ind (putDt counts times freqs center rec epoch e second) (λ i y. drop (placeOf second (length counts)) y ≡ drop (placeOf second (length counts)) (withElements e)) 0 (length counts)
+      zeros = for-ind (putDt counts times freqs g e second) (λ i y. drop (placeOf second (length counts)) y ≡ drop (placeOf second (length counts)) (withElements e)) 0 (length counts)
           (withElements e) (omega arith) refl (λ j y l h p. drop-set y (placeOf second j) (placeOf second (length counts)) _ (place-grows second j (length counts) h) ∙ p)
           ∙ elements-behind e (placeOf second (length counts)) (parameters second (length counts)) .zeros;
     }
@@ -120,6 +118,6 @@ start-behind counts times freqs center rec epoch e second =
 pub behind : (second enough : Bool) (n : ℕ) (e : Elements) (x : Observations) → Sets (Behind (placeOf second (length (x .counts)))) (refined second enough n e x)
 unfolding refined
 behind second enough n e x =
-    book-sets (Behind (placeOf second (length (x .counts)))) (penalisedSum second (observedStation x) (observedPasses x)) (advanceOf second (observedStation x) (observedPasses x)) enough
-    (λ lambda y z size h s. record { zeros = advance-behind second (observedStation x) (observedPasses x) lambda y z size s ∙ h .zeros })
-    _ (start-behind (x .counts) (x .times) (x .freqs) (x .center) (x .rec) (observedEpoch x) e second) n
+    book-sets (Behind (placeOf second (length (x .counts)))) (penalisedSum second (x .station) (observedPasses x)) (advanceOf second (x .station) (observedPasses x)) enough
+    (λ lambda y z size h s. record { zeros = advance-behind second (x .station) (observedPasses x) lambda y z size s ∙ h .zeros })
+    _ (start-behind (x .counts) (x .times) (x .freqs) (x .station) e second) n

@@ -13,11 +13,10 @@ use lib.Ieee.{Float}
 use borrow.Author.Tests.{ne-eqb}
 use Rattle.refusal.specs.Numbers as refusal
 use Rattle.refusal.specs.Order.{first}
-use Rattle.moment.specs.Range.{Within}
 use Rattle.moment.specs.Sample.{Timed}
-use Rattle.moment.specs.declared.Instant.{Instant}
 use Rattle.moment.proofs.Samples.{within-sound}
 use Rattle.orbit.specs.declared.Elements.{Elements}
+use Rattle.orbit.specs.declared.doppler.Station.{Station}
 use Rattle.pass_set.specs.PassSet.{startOf}
 use Rattle.pass_set.proofs.Laws.{start-zero, start-next, start-fits}
 use Rattle.search.specs.Sum.{sumOf}
@@ -25,7 +24,6 @@ use Rattle.search.specs.Search.{searchOf}
 use Rattle.search.specs.declared.Found.{Found}
 use Rattle.residuals.specs.Samples.{passesOf, countsAt, Dated, Rotations}
 use Rattle.residuals.specs.Residuals.{rowsOf, placeOf, elementsOf, penalisedSum}
-use Rattle.residuals.specs.declared.Station.{Station}
 use Rattle.residuals.proofs.Samples.{counts-length, counts-dated}
 use Rattle.refine.specs.Advance.{advanceOf}
 use Rattle.book.specs.Book.{Search, book}
@@ -38,17 +36,17 @@ use Rattle.trials.specs.declared.State.{State}
 use Rattle.start.specs.Start.{startingSet}
 use Rattle.start.proofs.Given.{first-passes}
 use Rattle.arguments.specs.Refusals.{scratchSize}
-use Rattle.fit.specs.Fit.{Observations, observed, observedEpoch, firstTwo, bestStart, startElements, refined, refinedTwo, firstBook, trialBook}
+use Rattle.fit.specs.Fit.{Observations, observed, firstTwo, bestStart, startElements, refined, refinedTwo, firstBook, trialBook}
 use Rattle.fit.specs.Answer.{farEnding, farRefusal, searchRefusals}
 use Rattle.fit.specs.Work.{Refines, Two, Given, Ends, Solves}
 
 -- ---- the start
 
-pub elements-found : (a i : Float) (x : Observations) (epoch : Instant) (f : Found) → epoch ≡ observedEpoch x
-    → f ≡ searchOf (sumOf (x .counts) (x .times) (x .freqs) (x .center ∷ x .center ∷ []) (record { «rec_ecef» = x .rec; a = a; i = i; epoch = epoch; «center_freq» = x .center })) 0 144
+pub elements-found : (a i : Float) (x : Observations) (f : Found)
+    → f ≡ searchOf (sumOf (x .counts) (x .times) (x .freqs) (x .station .«center_freq» ∷ x .station .«center_freq» ∷ []) (record { station = x .station; a = a; i = i })) 0 144
     → _≡_ {A = Elements} (record { a = a; i = i; raan0 = f .raan0; u0 = f .u0 }) (startElements a i x)
 unfolding startElements bestStart
-elements-found a i x epoch f e h = rw (h, e)
+elements-found a i x f h = rw h
 
 -- ---- a refinement
 
@@ -59,14 +57,14 @@ module _ (times : List ℤ) (moments : List ℕ) (is : moments ≡ countsAt time
   pub moments-dated : Timed times → Dated moments
   moments-dated h = rw is (counts-dated times h)
 
-module _ {second : Bool} {most : ℕ} {counts : List ℕ} {times : List ℤ} {freqs : List Float} {log scratch : ℕ} (s : Refines second most counts times freqs log scratch) where
-  pub asks : (g : Station) (moments : List ℕ) (turns : List Float) (room : ℕ) → moments ≡ countsAt times → Within 0 (g .epoch .secs) (g .epoch .nanos) → Rotations moments turns
+module _ {second : Bool} {most : ℕ} {g : Station} {counts : List ℕ} {times : List ℤ} {freqs : List Float} {log scratch : ℕ} (s : Refines second most g counts times freqs log scratch) where
+  pub asks : (moments : List ℕ) (turns : List Float) (room : ℕ) → moments ≡ countsAt times → Rotations moments turns
       → room ≡ scratch → Fits second g (passesOf counts moments freqs) turns room
-  asks g moments turns room is w t e =
+  asks moments turns room is t e =
       let same = moments-length times moments is in
       record {
         samples = record {
-          epoch = within-sound 0 (g .epoch .secs) (g .epoch .nanos) (omega arith) w;
+          epoch = within-sound 0 (g .epoch .secs) (g .epoch .nanos) (omega arith) (s .dated);
           few = s .set .sizes .few;
           small = rw same (s .set .sizes .small);
           whole = s .set .sizes .whole ∙ sym same;
@@ -76,22 +74,21 @@ module _ {second : Bool} {most : ℕ} {counts : List ℕ} {times : List ℤ} {fr
         table = rw (same, e) (s .table);
       }
 
-pub runs-refined : (second enough : Bool) (most : ℕ) (e : Elements) (x : Observations) (moments : List ℕ) (epoch : Instant) (start old log : List Float) (cells : ℕ) (scratch scratch′ : List Float) (t : Trials)
-    → moments ≡ countsAt (x .times) → epoch ≡ observedEpoch x
-    → start ≡ startingSet (x .counts) (x .times) (x .freqs) (x .center) (x .rec) epoch e second
-    → Runs (book (penalisedSum second (record { epoch = epoch; «center_freq» = x .center; «rec_ecef» = x .rec }) (passesOf (x .counts) moments (x .freqs)))
-    (advanceOf second (record { epoch = epoch; «center_freq» = x .center; «rec_ecef» = x .rec }) (passesOf (x .counts) moments (x .freqs))) enough start most) old log cells scratch scratch′ t
+pub runs-refined : (second enough : Bool) (most : ℕ) (e : Elements) (x : Observations) (moments : List ℕ) (start old log : List Float) (cells : ℕ) (scratch scratch′ : List Float) (t : Trials)
+    → moments ≡ countsAt (x .times) → start ≡ startingSet (x .counts) (x .times) (x .freqs) (x .station) e second
+    → Runs (book (penalisedSum second (x .station) (passesOf (x .counts) moments (x .freqs)))
+    (advanceOf second (x .station) (passesOf (x .counts) moments (x .freqs))) enough start most) old log cells scratch scratch′ t
     → RunsTo (refined second enough most e x) old log t
 unfolding refined
-runs-refined second enough most e x moments epoch start old log cells scratch scratch′ t m q s r = rw (s, q, m) at (r .runs)
+runs-refined second enough most e x moments start old log cells scratch scratch′ t m s r = rw (s, m) at (r .runs)
 
 -- ---- two passes
 
-pub two-refines : {counts : List ℕ} {times : List ℤ} {freqs : List Float} {scratch : ℕ} (room : ℕ) → room ≡ scratch → Two counts times freqs scratch
-    → Refines false 100 counts times freqs 100 room
+pub two-refines : {g : Station} {counts : List ℕ} {times : List ℤ} {freqs : List Float} {scratch : ℕ} (room : ℕ) → room ≡ scratch → Two g counts times freqs scratch
+    → Refines false 100 g counts times freqs 100 room
 unfolding rowsOf placeOf
 two-refines room e s =
-    record { set = s .set; some = s .some; log-room = omega arith; few = omega arith; table = rw (s .two, e) (s .table) }
+    record { dated = s .dated; set = s .set; some = s .some; log-room = omega arith; few = omega arith; table = rw (s .two, e) (s .table) }
 
 pub two-ends : (a i : Float) (x : Observations) (e : Elements) (rows : ℕ) (old log : List Float) (t : Trials) → e ≡ startElements a i x → rows ≡ rowsOf false (length (x .times)) (length (x .counts))
     → RunsTo (refined false (leb 8 rows) 100 e x) old log t → Ends (refinedTwo a i x) (t .state)
@@ -106,19 +103,20 @@ pub two-start : (counts : List ℕ) → 2 ≤ length counts → getD counts 0 0 
 two-start counts h =
     omega (arith, start-zero counts, start-next counts 0 (omega arith), start-next counts 1 (omega arith))
 
-module _ {counts : List ℕ} {times : List ℤ} {freqs : List Float} {scratch : ℕ} (s : Given counts times freqs scratch) where
+module _ {g : Station} {counts : List ℕ} {times : List ℤ} {freqs : List Float} {scratch : ℕ} (s : Given g counts times freqs scratch) where
   pub two-fits : getD counts 0 0 + getD counts 1 0 ≤ length times
   two-fits = omega (arith, two-start counts (s .two), start-next counts 1 (omega (arith, s .two)), start-fits counts 1 (omega (arith, s .two)), s .set .sizes .whole)
 
   pub some-times : 0 < length times
   some-times = omega (arith, two-fits, s .set .each 0 (omega (arith, s .two)))
 
-  pub gives-two : (n : ℕ) → n ≡ getD counts 0 0 + getD counts 1 0 → Two (take 2 counts) (take n times) (take n freqs) scratch
+  pub gives-two : (n : ℕ) → n ≡ getD counts 0 0 + getD counts 1 0 → Two g (take 2 counts) (take n times) (take n freqs) scratch
   unfolding scratchSize
   gives-two n e =
       let at : n ≡ startOf counts 2 = e ∙ two-start counts (s .two) in
       let size : length (take n times) ≡ n = length-take-le n times (omega (arith, two-fits, e)) in
       record {
+        dated = s .dated;
         set = rw at (first-passes 2 (s .set));
         two = length-take-le 2 counts (s .two);
         some = omega (arith, size, e, s .set .each 0 (omega (arith, s .two)));
@@ -133,7 +131,7 @@ module _ {counts : List ℕ} {times : List ℤ} {freqs : List Float} {scratch : 
       deep k = omega arith
 
 pub first-ends : (a i : Float) (x : Observations) (n : ℕ) (s : State) → n ≡ startOf (x .counts) 2
-    → Ends (refinedTwo a i (observed (take 2 (x .counts)) (take n (x .times)) (take n (x .freqs)) (x .center) (x .rec))) s → Ends (firstBook a i x) s
+    → Ends (refinedTwo a i (observed (take 2 (x .counts)) (take n (x .times)) (take n (x .freqs)) (x .station))) s → Ends (firstBook a i x) s
 unfolding firstBook firstTwo startOf
 first-ends a i x n s k r = rw k at r
 
@@ -144,10 +142,11 @@ table-all t p room h =
     let m = mul-le-mul-left {m = 4 + 4 * p} {n = 5 + 4 * p} (t + 3 * p) (omega arith) in
     omega (arith, m, h)
 
-pub all-refines : {counts : List ℕ} {times : List ℤ} {freqs : List Float} {scratch : ℕ} (log room : ℕ) → 150 ≤ log → room ≡ scratch → Given counts times freqs scratch
-    → Refines true 150 counts times freqs log room
+pub all-refines : {g : Station} {counts : List ℕ} {times : List ℤ} {freqs : List Float} {scratch : ℕ} (log room : ℕ) → 150 ≤ log → room ≡ scratch → Given g counts times freqs scratch
+    → Refines true 150 g counts times freqs log room
 unfolding rowsOf placeOf scratchSize
-all-refines {counts} {times} {freqs} {scratch} log room h e s = record {
+all-refines {g} {counts} {times} {freqs} {scratch} log room h e s = record {
+  dated = s .dated;
   set = s .set;
   some = some-times s;
   log-room = h;

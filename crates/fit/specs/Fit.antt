@@ -8,7 +8,6 @@ use lib.IntN.{ℤ, pos}
 use lib.ListN.{length, getD, take}
 use lib.Ieee.{Float}
 use Rattle.moment.specs.Sample.{instantAt}
-use Rattle.moment.specs.declared.Instant.{Instant}
 use Rattle.frame.specs.declared.Vec3.{Vec3}
 use Rattle.orbit.specs.declared.Elements.{Elements}
 use Rattle.pass_set.specs.PassSet.{total}
@@ -18,28 +17,24 @@ use Rattle.search.specs.declared.Fixed.{Fixed}
 use Rattle.search.specs.declared.Found.{Found}
 use Rattle.residuals.specs.Samples.{Passes, passesOf, countsAt}
 use Rattle.residuals.specs.Residuals.{elementsOf, rowsOf, penalisedSum}
-use Rattle.residuals.specs.declared.Station.{Station}
+use Rattle.orbit.specs.declared.doppler.Station.{Station}
 use Rattle.refine.specs.Advance.{advanceOf}
 use Rattle.book.specs.Book.{Book, book}
 use Rattle.start.specs.Start.{radiusEstimate, startingSet}
 
--- what is observed: the counts of the non-empty passes, all samples, the first non-empty pass's centre, and the receiver
+-- what is observed: the counts of the non-empty passes, all samples, and the station: the first sample's moment as epoch, the first
+-- non-empty pass's centre, and the receiver
 pub record Observations : Type 0 where
   pub counts : List ℕ
   pub times : List ℤ
   pub freqs : List Float
-  pub center : Float
-  pub rec : Vec3
+  pub station : Station
 
-abbrev pub observed : List ℕ → List ℤ → List Float → Float → Vec3 → Observations
-observed counts times freqs center rec = record { counts = counts; times = times; freqs = freqs; center = center; rec = rec }
+abbrev pub observed : List ℕ → List ℤ → List Float → Station → Observations
+observed counts times freqs g = record { counts = counts; times = times; freqs = freqs; station = g }
 
--- the first sample's moment
-abbrev pub observedEpoch : Observations → Instant
-observedEpoch x = instantAt (getD (x .times) 0 (pos 0))
-
-abbrev pub observedStation : Observations → Station
-observedStation x = record { epoch = observedEpoch x; «center_freq» = x .center; «rec_ecef» = x .rec }
+abbrev pub stationIn : List ℤ → Float → Vec3 → Station
+stationIn times center rec = record { epoch = instantAt (getD times 0 (pos 0)); «center_freq» = center; «rec_ecef» = rec }
 
 -- as the residuals take them
 abbrev pub observedPasses : Observations → Passes
@@ -49,20 +44,20 @@ observedPasses x = passesOf (x .counts) (countsAt (x .times)) (x .freqs)
 unfoldable pub firstTwo : Observations → Observations
 firstTwo x =
     let c = take 2 (x .counts) in
-    observed c (take (total c) (x .times)) (take (total c) (x .freqs)) (x .center) (x .rec)
+    observed c (take (total c) (x .times)) (take (total c) (x .freqs)) (x .station)
 
 -- ---- the steps
 
 unfoldable pub radius : Observations → Float
-radius x = radiusEstimate (x .counts) (x .times) (x .freqs) (x .center)
+radius x = radiusEstimate (x .counts) (x .times) (x .freqs) (x .station .«center_freq»)
 
 -- what the search holds fixed: semi-major axis and inclination, beside what is observed
 abbrev pub observedFixed : Float → Float → Observations → Fixed
-observedFixed a i x = record { «rec_ecef» = x .rec; a = a; i = i; epoch = observedEpoch x; «center_freq» = x .center }
+observedFixed a i x = record { station = x .station; a = a; i = i }
 
 -- the best of the 144 starts on two passes x
 unfoldable pub bestStart : Float → Float → Observations → Found
-bestStart a i x = searchOf (sumOf (x .counts) (x .times) (x .freqs) (x .center ∷ x .center ∷ []) (observedFixed a i x)) 0 144
+bestStart a i x = searchOf (sumOf (x .counts) (x .times) (x .freqs) (x .station .«center_freq» ∷ x .station .«center_freq» ∷ []) (observedFixed a i x)) 0 144
 
 unfoldable pub startElements : Float → Float → Observations → Elements
 startElements a i x = record { a = a; i = i; raan0 = bestStart a i x .raan0; u0 = bestStart a i x .u0 }
@@ -70,8 +65,8 @@ startElements a i x = record { a = a; i = i; raan0 = bestStart a i x .raan0; u0 
 -- a refinement of the passes x from these elements, of at most n trials
 unfoldable pub refined : Bool → Bool → ℕ → Elements → Observations → Book
 refined second enough n e x =
-    book (penalisedSum second (observedStation x) (observedPasses x)) (advanceOf second (observedStation x) (observedPasses x)) enough
-    (startingSet (x .counts) (x .times) (x .freqs) (x .center) (x .rec) (observedEpoch x) e second) n
+    book (penalisedSum second (x .station) (observedPasses x)) (advanceOf second (x .station) (observedPasses x)) enough
+    (startingSet (x .counts) (x .times) (x .freqs) (x .station) e second) n
 
 -- search and first refinement of two passes x: it ends at once where it has fewer residuals than its 8 parameters
 unfoldable pub refinedTwo : Float → Float → Observations → Book

@@ -7,7 +7,9 @@ use lib.IntN.{ℤ}
 use lib.ListN.{length, take}
 use lib.Ieee.{Float}
 use Rattle.refusal.specs.Order.{first}
+use Rattle.moment.specs.Range.{Within}
 use Rattle.moment.specs.Sample.{Timed}
+use Rattle.orbit.specs.declared.doppler.Station.{Station}
 use Rattle.residuals.specs.Residuals.{placeOf, rowsOf}
 use Rattle.book.specs.Book.{Book}
 use Rattle.trials.specs.Trials.{stateSearch, RunsTo}
@@ -20,8 +22,9 @@ use Rattle.fit.specs.Answer.{workRefusals, fitFound, Outputs, filledOutp
 use Rattle.fit.specs.declared.Fit.{Fit}
 use Rattle.fit.specs.declared.Solved.{Solved}
 
--- of a refinement: samples in passes, room for the sums and for the table
-pub record Refines (second : Bool) (most : ℕ) (counts : List ℕ) (times : List ℤ) (freqs : List Float) (log scratch : ℕ) : Type 0 where
+-- of a refinement: an epoch that passed refusal 4, samples in passes, room for the sums and for the table
+pub record Refines (second : Bool) (most : ℕ) (g : Station) (counts : List ℕ) (times : List ℤ) (freqs : List Float) (log scratch : ℕ) : Type 0 where
+  pub dated : Within 0 (g .epoch .secs) (g .epoch .nanos)
   pub set : Passes counts times freqs
   pub some : 0 < length times
   pub log-room : most ≤ log
@@ -29,7 +32,8 @@ pub record Refines (second : Bool) (most : ℕ) (counts : List ℕ) (times : Lis
   pub table : rowsOf second (length times) (length counts) * placeOf second (length counts) ≤ scratch
 
 -- of two passes: room for the table of rotations and for the table of derivatives
-pub record Two (counts : List ℕ) (times : List ℤ) (freqs : List Float) (scratch : ℕ) : Type 0 where
+pub record Two (g : Station) (counts : List ℕ) (times : List ℤ) (freqs : List Float) (scratch : ℕ) : Type 0 where
+  pub dated : Within 0 (g .epoch .secs) (g .epoch .nanos)
   pub set : Passes counts times freqs
   pub two : length counts ≡ 2
   pub some : 0 < length times
@@ -37,7 +41,8 @@ pub record Two (counts : List ℕ) (times : List ℤ) (freqs : List Float) (scra
   pub table : (length times + 2) * 8 ≤ scratch
 
 -- of both refinements: two passes or more, and the scratch that document 01 asks for
-pub record Given (counts : List ℕ) (times : List ℤ) (freqs : List Float) (scratch : ℕ) : Type 0 where
+pub record Given (g : Station) (counts : List ℕ) (times : List ℤ) (freqs : List Float) (scratch : ℕ) : Type 0 where
+  pub dated : Within 0 (g .epoch .secs) (g .epoch .nanos)
   pub set : Passes counts times freqs
   pub two : 2 ≤ length counts
   pub room : scratchSize (length times) (length counts) ≤ scratch

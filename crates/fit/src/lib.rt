@@ -18,10 +18,11 @@ use book::Ending;
 use frame::Vec3;
 use moment::Moment;
 use orbit::Elements;
+use orbit::doppler::Station;
 use pass_set::MAX_SAMPLES;
 use residuals::PARAMS;
-use residuals::Station;
 use solution::SolvedOrbit;
+use trials::Refinement;
 use trials::State;
 use trials::Trials;
 
@@ -47,24 +48,16 @@ fn start_elements(
     counts: &[u32],
     times: &[i64],
     freqs: &[f64],
-    center: f64,
-    rec_ecef: Vec3,
+    g: Station,
     i: f64,
     scratch: &mut [f64],
 ) -> Elements
-    requires { ⌜ Two (now counts) (now times) (now freqs) (length (now scratch)) ⌝ }
-    ensures { λ r. ⌜ r ≡ startElements a i (observed (now (counts .entry)) (now (times .entry)) (now (freqs .entry)) center «rec_ecef») ⌝ }
+    requires { ⌜ Two g (now counts) (now times) (now freqs) (length (now scratch)) ⌝ }
+    ensures { λ r. ⌜ r ≡ startElements a i (observed (now (counts .entry)) (now (times .entry)) (now (freqs .entry)) g) ⌝ }
 {
-    let centers = [center; 2];
-    let epoch = approach::pca::moment_at(times, 0);
+    let centers = [g.center_freq; 2];
     approach::turns::fill(counts, times, freqs, &centers, scratch);
-    let o = search::Fixed {
-        rec_ecef,
-        a,
-        i,
-        epoch,
-        center_freq: center,
-    };
+    let o = search::Fixed { station: g, a, i };
     let best = search::search(counts, times, freqs, &centers, scratch, o, 0, 144);
     Elements {
         a,
@@ -76,42 +69,31 @@ fn start_elements(
 
 // A refinement of these passes from the elements e, of at most `most` trials.
 fn refine_passes(
-    second: bool,
-    enough: bool,
+    w: Refinement,
     most: usize,
     e: Elements,
     counts: &[u32],
     times: &[i64],
     freqs: &[f64],
-    center: f64,
-    rec_ecef: Vec3,
     log: &mut [f64],
     scratch: &mut [f64],
 ) -> Trials
-    requires { ⌜ Refines second most (now counts) (now times) (now freqs) (length (now log)) (length (now scratch)) ⌝ }
-    ensures { λ r. ⌜ RunsTo (refined second enough most e (observed (now (counts .entry)) (now (times .entry)) (now (freqs .entry)) center «rec_ecef»)) (now (log .entry)) (now (log .exit)) r ⌝ }
+    requires { ⌜ Refines (w .second) most (w .station) (now counts) (now times) (now freqs) (length (now log)) (length (now scratch)) ⌝ }
+    ensures { λ r. ⌜ RunsTo (refined (w .second) (w .enough) most e (observed (now (counts .entry)) (now (times .entry)) (now (freqs .entry)) (w .station))) (now (log .entry)) (now (log .exit)) r ⌝ }
 {
     let mut moments = [0u64; MAX_SAMPLES];
     let mut turns = [0.0; 8192];
     let n = times.len();
     residuals::counts_at(times, &mut moments);
     residuals::rotations(&moments[..n], &mut turns);
-    let epoch = approach::pca::moment_at(times, 0);
-    let start = start::starting_set(second, counts, times, freqs, center, rec_ecef, epoch, e);
-    let g = Station {
-        epoch,
-        center_freq: center,
-        rec_ecef,
-    };
+    let start = start::starting_set(w.second, counts, times, freqs, w.station, e);
     trials::refine_trials(
-        second,
-        enough,
+        w,
         most,
         counts,
         &moments[..n],
         freqs,
         &turns,
-        g,
         start,
         log,
         scratch,
@@ -124,30 +106,22 @@ fn refine_two(
     counts: &[u32],
     times: &[i64],
     freqs: &[f64],
-    center: f64,
-    rec_ecef: Vec3,
+    g: Station,
     i: f64,
     scratch: &mut [f64],
 ) -> State
-    requires { ⌜ Two (now counts) (now times) (now freqs) (length (now scratch)) ⌝ }
-    ensures { λ r. ⌜ Ends (refinedTwo a i (observed (now (counts .entry)) (now (times .entry)) (now (freqs .entry)) center «rec_ecef»)) r ⌝ }
+    requires { ⌜ Two g (now counts) (now times) (now freqs) (length (now scratch)) ⌝ }
+    ensures { λ r. ⌜ Ends (refinedTwo a i (observed (now (counts .entry)) (now (times .entry)) (now (freqs .entry)) g)) r ⌝ }
 {
-    let e = start_elements(a, counts, times, freqs, center, rec_ecef, i, scratch);
+    let e = start_elements(a, counts, times, freqs, g, i, scratch);
     let rows = residuals::rows_of(false, times.len(), counts.len());
     let mut log = [0.0; 100];
-    let t = refine_passes(
-        false,
-        8 <= rows,
-        100,
-        e,
-        counts,
-        times,
-        freqs,
-        center,
-        rec_ecef,
-        &mut log,
-        scratch,
-    );
+    let w = Refinement {
+        second: false,
+        enough: 8 <= rows,
+        station: g,
+    };
+    let t = refine_passes(w, 100, e, counts, times, freqs, &mut log, scratch);
     t.state
 }
 
@@ -157,25 +131,15 @@ fn refine_first(
     counts: &[u32],
     times: &[i64],
     freqs: &[f64],
-    center: f64,
-    rec_ecef: Vec3,
+    g: Station,
     i: f64,
     scratch: &mut [f64],
 ) -> State
-    requires { ⌜ Given (now counts) (now times) (now freqs) (length (now scratch)) ⌝ }
-    ensures { λ r. ⌜ Ends (firstBook a i (observed (now (counts .entry)) (now (times .entry)) (now (freqs .entry)) center «rec_ecef»)) r ⌝ }
+    requires { ⌜ Given g (now counts) (now times) (now freqs) (length (now scratch)) ⌝ }
+    ensures { λ r. ⌜ Ends (firstBook a i (observed (now (counts .entry)) (now (times .entry)) (now (freqs .entry)) g)) r ⌝ }
 {
     let n = counts[0] as usize + counts[1] as usize;
-    refine_two(
-        a,
-        &counts[..2],
-        &times[..n],
-        &freqs[..n],
-        center,
-        rec_ecef,
-        i,
-        scratch,
-    )
+    refine_two(a, &counts[..2], &times[..n], &freqs[..n], g, i, scratch)
 }
 
 // The refusal that a refinement's ending gives the fit, or 0: 23 is carried on, while the solver's 22 ended the refinement and no more.
@@ -245,16 +209,15 @@ fn refine_both(
     counts: &[u32],
     times: &[i64],
     freqs: &[f64],
-    center: f64,
-    rec_ecef: Vec3,
+    g: Station,
     i: f64,
     log: &mut [f64],
     scratch: &mut [f64],
 ) -> Solved
-    requires { ⌜ Given (now counts) (now times) (now freqs) (length (now scratch)) × (150 ≤ length (now log)) ⌝ }
-    ensures { λ r. ⌜ Solves (observed (now (counts .entry)) (now (times .entry)) (now (freqs .entry)) center «rec_ecef») a i (now (log .entry)) (now (log .exit)) r ⌝ }
+    requires { ⌜ Given g (now counts) (now times) (now freqs) (length (now scratch)) × (150 ≤ length (now log)) ⌝ }
+    ensures { λ r. ⌜ Solves (observed (now (counts .entry)) (now (times .entry)) (now (freqs .entry)) g) a i (now (log .entry)) (now (log .exit)) r ⌝ }
 {
-    let s = refine_first(a, counts, times, freqs, center, rec_ecef, i, scratch);
+    let s = refine_first(a, counts, times, freqs, g, i, scratch);
     let ended = s.ended;
     let refined = s.best_params;
     let e = residuals::elements_of(refined);
@@ -265,19 +228,12 @@ fn refine_both(
             trials: Trials { count: 0, state: s },
         };
     }
-    let trials = refine_passes(
-        true,
-        true,
-        MAX_TRIALS,
-        e,
-        counts,
-        times,
-        freqs,
-        center,
-        rec_ecef,
-        log,
-        scratch,
-    );
+    let w = Refinement {
+        second: true,
+        enough: true,
+        station: g,
+    };
+    let trials = refine_passes(w, MAX_TRIALS, e, counts, times, freqs, log, scratch);
     let last = trials.state;
     Solved {
         refusal: state_refusal(last, counts.len()),
@@ -425,16 +381,21 @@ pub fn fit_orbit_doppler(
     ) {
         return refused(refusal::SHORT_MEMORY);
     }
-    let center = arguments::first_center(counts, centers);
-    let a_est = start::radius_estimate(&list[..passes], times, freqs, center);
+    let center_freq = arguments::first_center(counts, centers);
+    let epoch = approach::pca::moment_at(times, 0);
+    let g = Station {
+        epoch,
+        center_freq,
+        rec_ecef,
+    };
+    let a_est = start::radius_estimate(&list[..passes], times, freqs, center_freq);
     let mut sums = [0.0; MAX_TRIALS];
     let w = refine_both(
         a_est,
         &list[..passes],
         times,
         freqs,
-        center,
-        rec_ecef,
+        g,
         initial_i,
         &mut sums,
         scratch,

@@ -51,23 +51,29 @@ first-center-requires c κs =
     let l = c .before .before .before .before in
     accepted _ _ _ _ _ _ _ (sym (l .before .input-refusal .ensures) ∙ l .if1 .left) .sizes .centred
 
+moment-at-requires : tie.Need-moment-at-requires
+moment-at-requires c κs =
+    let l = c .before .before .before .before .before in
+    let ok = accepted _ _ _ _ _ _ _ (sym (l .before .input-refusal .ensures) ∙ l .if1 .left) in
+    (ok .timed, omega (arith, ok .samples))
+
 array-share-prefix-list : tie.Need-array-share-prefix-list
 array-share-prefix-list c =
-    let n = c .before .before .before .before in
+    let n = c .before .before .before .before .before in
     let l = n .before in
     let ok = accepted _ _ _ _ _ _ _ (sym (l .before .input-refusal .ensures) ∙ l .if1 .left) in
     in-sixteen _ (n .non-empty .result .counts) (few-passes ok (n .non-empty .ensures)) (search needs)
 
 slice-aggregate-radius-estimate : tie.Need-slice-aggregate-radius-estimate
 slice-aggregate-radius-estimate c =
-    let n = c .before .before .before .before .before in
+    let n = c .before .before .before .before .before .before in
     let l = n .before in
     let ok = accepted _ _ _ _ _ _ _ (sym (l .before .input-refusal .ensures) ∙ l .if1 .left) in
     prefix _ (n .non-empty .result .counts) (in-sixteen _ (n .non-empty .result .counts) (few-passes ok (n .non-empty .ensures)) (search needs))
 
 radius-estimate-requires : tie.Need-radius-estimate-requires
 radius-estimate-requires c κs =
-    let e = c .before .before in
+    let e = c .before .before .before in
     let r = e .before in
     let n = r .before .before in
     let l = n .before in
@@ -81,21 +87,22 @@ radius-estimate-requires c κs =
 
 array-share-prefix-list-2 : tie.Need-array-share-prefix-list-2
 array-share-prefix-list-2 c =
-    let n = c .before .before .before .before .before .before in
+    let n = c .before .before .before .before .before .before .before in
     let l = n .before in
     let ok = accepted _ _ _ _ _ _ _ (sym (l .before .input-refusal .ensures) ∙ l .if1 .left) in
     in-sixteen _ (n .non-empty .result .counts) (few-passes ok (n .non-empty .ensures)) (search needs)
 
 slice-aggregate-refine-both : tie.Need-slice-aggregate-refine-both
 slice-aggregate-refine-both c =
-    let n = c .before .before .before .before .before .before .before in
+    let n = c .before .before .before .before .before .before .before .before in
     let l = n .before in
     let ok = accepted _ _ _ _ _ _ _ (sym (l .before .input-refusal .ensures) ∙ l .if1 .left) in
     prefix _ (n .non-empty .result .counts) (in-sixteen _ (n .non-empty .result .counts) (few-passes ok (n .non-empty .ensures)) (search needs))
 
 refine-both-requires : tie.Need-refine-both-requires
 refine-both-requires c κs =
-    let e = c .before .before .before .before .before .before in
+    let m = c .before .before .before .before .before in
+    let e = m .before .before in
     let r = e .before in
     let n = r .before .before in
     let l = n .before in
@@ -105,7 +112,7 @@ refine-both-requires c κs =
     (outputs (a .dts .now) (a .dfs .now) (a .df1s .now) (a .df2s .now) (a .log .now)) (a .scratch .now) _ _ _ (r .has-room .ensures) (n .non-empty .ensures .number) (not-false (r .has-room .result) (e .if2 .left)) in
     let ok = accepted _ _ _ _ _ _ _ (sym (i .input-refusal .ensures) ∙ l .if1 .left) in (
       given-all (arguments (a .counts .now) (a .times .now) (a .freqs .now) (a .centers .now) (a .rec-ecef) (a .initial-a) (a .initial-i))
-          (outputs (a .dts .now) (a .dfs .now) (a .df1s .now) (a .df2s .now) (a .log .now)) (a .scratch .now) ok _ (n .non-empty .ensures) room,
+          (outputs (a .dts .now) (a .dfs .now) (a .df1s .now) (a .df2s .now) (a .log .now)) (a .scratch .now) ok _ (n .non-empty .ensures) room _ (m .moment-at .ensures .1),
       omega arith,
     )
 
@@ -115,7 +122,8 @@ returns-3 : tie.Need-returns-3
 returns-3 c =
     let w = c .before .before .before .before .before .before .before .before .before .before in
     let q = w .before .before .before .before in
-    let f = q .before .before in
+    let m = q .before .before in
+    let f = m .before in
     let e = f .before in
     let r = e .before in
     let n = r .before .before in
@@ -124,10 +132,10 @@ returns-3 c =
     let a = i .before .before .before .before .before .before .before .before .before .before .args in
     let room = room-said (arguments (a .counts .now) (a .times .now) (a .freqs .now) (a .centers .now) (a .rec-ecef) (a .initial-a) (a .initial-i))
     (outputs (a .dts .now) (a .dfs .now) (a .df1s .now) (a .df2s .now) (a .log .now)) (a .scratch .now) _ _ _ (r .has-room .ensures) (n .non-empty .ensures .number) (not-false (r .has-room .result) (e .if2 .left)) in
-    let solved = solves-all (arguments (a .counts .now) (a .times .now) (a .freqs .now) (a .centers .now) (a .rec-ecef) (a .initial-a) (a .initial-i)) _ _ _ _ _ _ (n .non-empty .ensures .kept) (f .first-center .ensures) (q .radius-estimate .ensures) (w .refine-both .ensures) in
+    let solved = solves-all (arguments (a .counts .now) (a .times .now) (a .freqs .now) (a .centers .now) (a .rec-ecef) (a .initial-a) (a .initial-i)) _ _ _ _ _ _ _ (n .non-empty .ensures .kept) (m .moment-at .ensures .0) (f .first-center .ensures) (q .radius-estimate .ensures) (w .refine-both .ensures) in
     let z = c .before .before .before .before .before in
     rw (c .refused3 .ensures) (fits-worked (arguments (a .counts .now) (a .times .now) (a .freqs .now) (a .centers .now) (a .rec-ecef) (a .initial-a) (a .initial-i))
-    (outputs (a .dts .now) (a .dfs .now) (a .df1s .now) (a .df2s .now) (a .log .now)) (a .scratch .now) _ (i .input-refusal .ensures) (l .if1 .left) room _ _ _ solved _ (z .clear .ensures ∙ ap (λ (m : ℕ). replicate m (bits 0)) (w .refine-both .kept .1 .1 .1 .1 .1 .1 .1 .1 .0)) (c .before .if3 .taken))
+    (outputs (a .dts .now) (a .dfs .now) (a .df1s .now) (a .df2s .now) (a .log .now)) (a .scratch .now) _ (i .input-refusal .ensures) (l .if1 .left) room _ _ _ solved _ (z .clear .ensures ∙ ap (λ (m : ℕ). replicate m (bits 0)) (w .refine-both .kept .1 .1 .1 .1 .1 .1 .1 .0)) (c .before .if3 .taken))
 
 -- ---- accepted
 
@@ -135,7 +143,8 @@ put-answer-requires : tie.Need-put-answer-requires
 put-answer-requires c κs =
     let w = c .before .before .before .before .before .before .before .before .before .before .before .before .before .before .before .before in
     let q = w .before .before .before .before in
-    let f = q .before .before in
+    let m = q .before .before in
+    let f = m .before in
     let e = f .before in
     let r = e .before in
     let n = r .before .before in
@@ -144,16 +153,17 @@ put-answer-requires c κs =
     let a = i .before .before .before .before .before .before .before .before .before .before .args in
     let room = room-said (arguments (a .counts .now) (a .times .now) (a .freqs .now) (a .centers .now) (a .rec-ecef) (a .initial-a) (a .initial-i))
     (outputs (a .dts .now) (a .dfs .now) (a .df1s .now) (a .df2s .now) (a .log .now)) (a .scratch .now) _ _ _ (r .has-room .ensures) (n .non-empty .ensures .number) (not-false (r .has-room .result) (e .if2 .left)) in
-    let solved = solves-all (arguments (a .counts .now) (a .times .now) (a .freqs .now) (a .centers .now) (a .rec-ecef) (a .initial-a) (a .initial-i)) _ _ _ _ _ _ (n .non-empty .ensures .kept) (f .first-center .ensures) (q .radius-estimate .ensures) (w .refine-both .ensures) in
+    let solved = solves-all (arguments (a .counts .now) (a .times .now) (a .freqs .now) (a .centers .now) (a .rec-ecef) (a .initial-a) (a .initial-i)) _ _ _ _ _ _ _ (n .non-empty .ensures .kept) (m .moment-at .ensures .0) (f .first-center .ensures) (q .radius-estimate .ensures) (w .refine-both .ensures) in
     let ok = accepted _ _ _ _ _ _ _ (sym (i .input-refusal .ensures) ∙ l .if1 .left) in
     holds (arguments (a .counts .now) (a .times .now) (a .freqs .now) (a .centers .now) (a .rec-ecef) (a .initial-a) (a .initial-i))
-    (outputs (a .dts .now) (a .dfs .now) (a .df1s .now) (a .df2s .now) (a .log .now)) (a .scratch .now) ok _ (n .non-empty .ensures) room _ _ _ (solved .runs (c .before .before .before .before .before .before .before .if3 .left)) (w .refine-both .kept .1 .1 .1 .1 .1 .1 .1 .0)
+    (outputs (a .dts .now) (a .dfs .now) (a .df1s .now) (a .df2s .now) (a .log .now)) (a .scratch .now) ok _ (n .non-empty .ensures) room _ _ _ (solved .runs (c .before .before .before .before .before .before .before .if3 .left)) (w .refine-both .kept .1 .1 .1 .1 .1 .1 .0)
 
 returns-4 : tie.Need-returns-4
 returns-4 c =
     let w = c .before .before .before .before .before .before .before .before .before .before .before .before .before .before .before .before .before .before .before .before .before .before .before .before .before .before .before in
     let q = w .before .before .before .before in
-    let f = q .before .before in
+    let m = q .before .before in
+    let f = m .before in
     let e = f .before in
     let r = e .before in
     let n = r .before .before in
@@ -162,11 +172,11 @@ returns-4 c =
     let a = i .before .before .before .before .before .before .before .before .before .before .args in
     let room = room-said (arguments (a .counts .now) (a .times .now) (a .freqs .now) (a .centers .now) (a .rec-ecef) (a .initial-a) (a .initial-i))
     (outputs (a .dts .now) (a .dfs .now) (a .df1s .now) (a .df2s .now) (a .log .now)) (a .scratch .now) _ _ _ (r .has-room .ensures) (n .non-empty .ensures .number) (not-false (r .has-room .result) (e .if2 .left)) in
-    let solved = solves-all (arguments (a .counts .now) (a .times .now) (a .freqs .now) (a .centers .now) (a .rec-ecef) (a .initial-a) (a .initial-i)) _ _ _ _ _ _ (n .non-empty .ensures .kept) (f .first-center .ensures) (q .radius-estimate .ensures) (w .refine-both .ensures) in
+    let solved = solves-all (arguments (a .counts .now) (a .times .now) (a .freqs .now) (a .centers .now) (a .rec-ecef) (a .initial-a) (a .initial-i)) _ _ _ _ _ _ _ (n .non-empty .ensures .kept) (m .moment-at .ensures .0) (f .first-center .ensures) (q .radius-estimate .ensures) (w .refine-both .ensures) in
     let p = c .before .before .before .before .before .before .before .before .before .before in
     let z = c .before .before .before .before .before .before .before .before .before .before .before .before .before .before .before .before .before .before .before .before .before .before in
     fits-found (arguments (a .counts .now) (a .times .now) (a .freqs .now) (a .centers .now) (a .rec-ecef) (a .initial-a) (a .initial-i))
-    (outputs (a .dts .now) (a .dfs .now) (a .df1s .now) (a .df2s .now) (a .log .now)) (a .scratch .now) _ (i .input-refusal .ensures) (l .if1 .left) room _ _ _ solved _ (z .clear .ensures ∙ ap (λ (m : ℕ). replicate m (bits 0)) (w .refine-both .kept .1 .1 .1 .1 .1 .1 .1 .1 .0)) _ _ (c .before .before .before .before .before .before .before .before .before .before .before .before .before .before .before .before .before .before .if3 .left) (rw (n .non-empty .ensures .number) at (p .put-answer .ensures))
+    (outputs (a .dts .now) (a .dfs .now) (a .df1s .now) (a .df2s .now) (a .log .now)) (a .scratch .now) _ (i .input-refusal .ensures) (l .if1 .left) room _ _ _ solved _ (z .clear .ensures ∙ ap (λ (m : ℕ). replicate m (bits 0)) (w .refine-both .kept .1 .1 .1 .1 .1 .1 .1 .0)) _ _ (c .before .before .before .before .before .before .before .before .before .before .before .before .before .before .before .before .before .before .if3 .left) (rw (n .non-empty .ensures .number) at (p .put-answer .ensures))
 
 pub fit-orbit-doppler-spec : {M : Type 1} → statement M
 fit-orbit-doppler-spec =
@@ -180,6 +190,7 @@ fit-orbit-doppler-spec =
     (λ c κs. search needs)
     returns-2
     first-center-requires
+    moment-at-requires
     array-share-prefix-list
     slice-aggregate-radius-estimate
     radius-estimate-requires

@@ -45,7 +45,7 @@ returns c =
     let t = c .before .before in
     let s = t .before .before .before .before .before .before .before .before .before .before in
     let a = s .args in
-    first-ends _ _ (observed (a .counts .now) (a .times .now) (a .freqs .now) (a .center) (a .rec-ecef)) _ _ (two-start _ (s .pre .two)) (t .refine-two .ensures)
+    first-ends _ _ (observed (a .counts .now) (a .times .now) (a .freqs .now) (a .g)) _ _ (two-start _ (s .pre .two)) (t .refine-two .ensures)
 
 pub refine-first-spec : {M : Type 1} → statement M
 refine-first-spec =

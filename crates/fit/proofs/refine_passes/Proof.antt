@@ -22,20 +22,18 @@ slice-aggregate-refine-trials c = prefix _ _ (search needs)
 
 refine-trials-requires : tie.Need-refine-trials-requires
 refine-trials-requires c κs =
-    let m = c .before .before .before .before .before in
-    let r = m .before .before in
+    let r = c .before .before .before .before .before .before in
     let k = r .before .before .before .before in
     let s = k .before .before .before .before .before .before in
-    (asks (s .pre) _ _ _ _ (k .counts-at .ensures) (m .moment-at .ensures .1) (r .rotations .ensures) (search needs), s .pre .log-room, s .pre .few)
+    (asks (s .pre) _ _ _ (k .counts-at .ensures) (r .rotations .ensures) (search needs), s .pre .log-room, s .pre .few)
 
 returns : tie.Need-returns
 returns c =
     let t = c .before .before .before .before in
     let b = t .before .before .before .before .before in
-    let m = b .before in
-    let k = m .before .before .before .before .before .before in
+    let k = b .before .before .before .before .before .before in
     let a = k .before .before .before .before .before .before .args in
-    runs-refined _ _ _ _ (observed (a .counts .now) (a .times .now) (a .freqs .now) (a .center) (a .rec-ecef)) _ _ _ _ _ _ _ _ _ (k .counts-at .ensures) (m .moment-at .ensures .0) (b .starting-set .ensures) (t .refine-trials .ensures)
+    runs-refined _ _ _ _ (observed (a .counts .now) (a .times .now) (a .freqs .now) (a .w .station)) _ _ _ _ _ _ _ _ (k .counts-at .ensures) (b .starting-set .ensures) (t .refine-trials .ensures)
 
 pub refine-passes-spec : {M : Type 1} → statement M
 refine-passes-spec =
@@ -47,7 +45,6 @@ refine-passes-spec =
     slice-aggregate-rotations
     (λ c. search needs)
     rotations-requires
-    (λ c κs. search needs)
     (λ c κs. search needs)
     (λ c. search needs)
     slice-aggregate-refine-trials

@@ -9,7 +9,7 @@ refine-passes-requires : tie.Need-refine-passes-requires
 refine-passes-requires c κs =
     let e = c .before .before .before .before .before in
     let s = e .before .before .before .before .before in
-    two-refines _ (e .start-elements .kept .1 .1 .1 .1 .1 .1 .1 .0) (s .pre)
+    two-refines _ (e .start-elements .kept .1 .1 .1 .1 .1 .1 .0) (s .pre)
 
 returns : tie.Need-returns
 returns c =
@@ -17,7 +17,7 @@ returns c =
     let r = p .before .before .before in
     let e = r .before .before .before in
     let a = e .before .before .before .before .before .args in
-    two-ends (a .a) (a .i) (observed (a .counts .now) (a .times .now) (a .freqs .now) (a .center) (a .rec-ecef)) _ _ _ _ _ (e .start-elements .ensures) (r .rows-of .ensures .0) (p .refine-passes .ensures)
+    two-ends (a .a) (a .i) (observed (a .counts .now) (a .times .now) (a .freqs .now) (a .g)) _ _ _ _ _ (e .start-elements .ensures) (r .rows-of .ensures .0) (p .refine-passes .ensures)
 
 pub refine-two-spec : {M : Type 1} → statement M
 refine-two-spec =

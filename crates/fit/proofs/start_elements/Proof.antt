@@ -8,34 +8,27 @@ use Rattle.fit.proofs.Steps.{elements-found}
 use Rattle.fit.proofs.start_elements.Statement.{statement}
 use Rattle.fit.proofs.start_elements.Tie as tie
 
-moment-at-requires : tie.Need-moment-at-requires
-moment-at-requires c κs =
-    let s = c .before .before .before in
-    (s .pre .set .timed, s .pre .some)
-
 fill-requires : tie.Need-fill-requires
 fill-requires c κs =
-    let s = c .before .before .before .before .before .before in
+    let s = c .before .before .before .before .before in
     (pass-set _ (sym (s .pre .two)) (s .pre .set), omega (arith, s .pre .two, s .pre .set .sizes .small, s .pre .rotations))
 
 search-requires : tie.Need-search-requires
 search-requires c κs =
     let f = c .before .before .before .before in
-    let m = f .before .before .before in
-    let s = m .before .before .before .before in
-    (record { dated = m .moment-at .ensures .1; set = pass-set _ (sym (s .pre .two)) (s .pre .set); tabled = f .fill .ensures .tabled }, omega arith)
+    let s = f .before .before .before .before .before .before in
+    (record { dated = s .pre .dated; set = pass-set _ (sym (s .pre .two)) (s .pre .set); tabled = f .fill .ensures .tabled }, omega arith)
 
 returns : tie.Need-returns
 returns c =
-    let m = c .before .before .before .before .before .before .before .before in
-    let a = m .before .before .before .before .args in
-    elements-found (a .a) (a .i) (observed (a .counts .now) (a .times .now) (a .freqs .now) (a .center) (a .rec-ecef)) _ _ (m .moment-at .ensures .0) (c .search .ensures)
+    let f = c .before .before .before .before .before in
+    let a = f .before .before .before .before .before .before .args in
+    elements-found (a .a) (a .i) (observed (a .counts .now) (a .times .now) (a .freqs .now) (a .g)) _ (c .search .ensures)
 
 pub start-elements-spec : {M : Type 1} → statement M
 start-elements-spec =
     tie.close
     (tie.spec
-    moment-at-requires
     (λ c. search needs)
     fill-requires
     (λ c. search needs)
