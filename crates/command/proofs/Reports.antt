@@ -18,8 +18,9 @@ use Rattle.moment.specs.Sample.{timeInRange, momentAt}
 use Rattle.moment.specs.declared.Moment.{Moment}
 use Rattle.frame.specs.declared.Vec3.{Vec3}
 use Rattle.solution.specs.declared.SolvedOrbit.{SolvedOrbit}
-use Rattle.command.specs.Report.{noMoment, momentIn, sampleMoment, passAt, squaresOf, walkPass, withPass, opening, meanRoot, rmsOf, noBiases, biasesOf}
-use Rattle.command.specs.declared.report.Pass.{Pass}
+use Rattle.command.specs.Report.{noMoment, momentIn, sampleMoment, biasesAt, passOf, squaresOf, walkPass, withPass, opening, meanRoot, rmsOf, noBiases, biasesOf}
+use Rattle.command.specs.declared.report.Biases.{Biases}
+use Rattle.command.specs.declared.report.Fitted.{Fitted}
 use Rattle.command.specs.declared.report.Walk.{Walk}
 
 pub in-time : (u t : ℤ) {b : Bool} {m : Moment} → u ≡ t → b ≡ timeInRange u → b ≡ true → m ≡ momentAt u → m ≡ momentIn t
@@ -39,24 +40,16 @@ unfolding sampleMoment
 past-samples times k h = sym (ap (λ (b : Bool). cond b (momentIn (getD times k (pos 0))) noMoment) (le-ltb k (length times) h))
 
 -- one pass more
-pub walks : (g : Pass) (times : List ℤ) (freqs : List Float) (center : Float) (orbit : SolvedOrbit) (rec : Vec3) (dts dfs df1s df2s : List Float) (n : ℕ) (w : Walk) (sum : Float)
-    → (n ≡ 0 → ⊥) → g ≡ passAt times center orbit rec dts dfs df1s df2s (w .at) (w .passes) → sum ≡ squaresOf times freqs g (w .at) (w .at + n) (w .sum)
-    → record { sum = sum; at = w .at + n; passes = w .passes + 1 } ≡ walkPass times freqs center orbit rec dts dfs df1s df2s n w
-walks g times freqs center orbit rec dts dfs df1s df2s zero w sum h e s = absurd (h refl)
-walks g times freqs center orbit rec dts dfs df1s df2s (suc n) w sum h e s =
+pub walks : (times : List ℤ) (freqs : List Float) (g : Fitted) (b : Biases) (n : ℕ) (w : Walk) {since : Moment} {sum : Float}
+    → (n ≡ 0 → ⊥) → since ≡ sampleMoment times (w .at) → sum ≡ squaresOf times freqs g (passOf b since) (w .at) (w .at + n) (w .sum)
+    → record { sum = sum; at = w .at + n; passes = w .passes + 1 } ≡ walkPass times freqs g b n w
+walks times freqs g b zero w h e s = absurd (h refl)
+walks times freqs g b (suc n) w h e s =
     ap (λ (v : Float). record { sum = v; at = w .at + suc n; passes = w .passes + 1 })
-    (s ∙ ap (λ (q : Pass). squaresOf times freqs q (w .at) (w .at + suc n) (w .sum)) e)
+    (s ∙ ap (λ (m : Moment). squaresOf times freqs g (passOf b m) (w .at) (w .at + suc n) (w .sum)) e)
 
-pub walks-none : (times : List ℤ) (freqs : List Float) (center : Float) (orbit : SolvedOrbit) (rec : Vec3) (dts dfs df1s df2s : List Float) (n : ℕ) (w : Walk) → n ≡ 0
-    → w ≡ walkPass times freqs center orbit rec dts dfs df1s df2s n w
-walks-none times freqs center orbit rec dts dfs df1s df2s n w h = sym (ap (λ (m : ℕ). walkPass times freqs center orbit rec dts dfs df1s df2s m w) h)
-
-pub same-pass : (times : List ℤ) (center : Float) (orbit : SolvedOrbit) (rec : Vec3) (dts dfs df1s df2s : List Float) (at q : ℕ) {dt d0 d1 d2 : Float} {since : Moment}
-    → dt ≡ getD dts q nan → d0 ≡ getD dfs q nan → d1 ≡ getD df1s q nan → d2 ≡ getD df2s q nan → since ≡ sampleMoment times at
-    → _≡_ {A = Pass} (record { dt = dt; df = record { 0 = d0; 1 = d1; 2 = d2 }; since = since; «center_freq» = center; orbit = orbit; «rec_ecef» = rec })
-    (passAt times center orbit rec dts dfs df1s df2s at q)
-same-pass times center orbit rec dts dfs df1s df2s at q a b d e m =
-    λ j. record { dt = a j; df = record { 0 = b j; 1 = d j; 2 = e j }; since = m j; «center_freq» = center; orbit = orbit; «rec_ecef» = rec }
+pub walks-none : (times : List ℤ) (freqs : List Float) (g : Fitted) (b : Biases) (n : ℕ) (w : Walk) → n ≡ 0 → w ≡ walkPass times freqs g b n w
+walks-none times freqs g b n w h = sym (ap (λ (m : ℕ). walkPass times freqs g b m w) h)
 
 pub wider : (a n : ℕ) → Fits w32 n → a + n ≤ a + 4294967295
 wider a n h = omega (arith, h .fits)
@@ -74,16 +67,18 @@ module _ (counts : List ℕ) (times : List ℤ) (freqs centers : List Float) (re
 
   whole : length counts ≤ 16 → length centers ≡ length counts
       → rmsOf counts times freqs centers rec orbit dts dfs df1s df2s
-      ≡ meanRoot (for 0 (length counts) (withPass times freqs (centerOf counts centers) orbit rec dts dfs df1s df2s counts) opening)
+      ≡ meanRoot (for 0 (length counts) (withPass times freqs (record { orbit = orbit; «center_freq» = centerOf counts centers; «rec_ecef» = rec }) counts dts dfs df1s df2s) opening)
   unfolding rmsOf
   whole h k = simp (le-ltb 16 (length counts) h, eq-eqb (length centers) (length counts) k)
 
   pub mean : {center n r : Float} {w : Walk} → length counts ≤ 16 → length centers ≡ length counts → center ≡ centerOf counts centers
-      → w ≡ for 0 (length counts) (withPass times freqs center orbit rec dts dfs df1s df2s counts) opening → n ≡ ofInt binary64 (pos (w .at)) → r ≡ sqrtOf (w .sum ⊘ n)
-      → r ≡ rmsOf counts times freqs centers rec orbit dts dfs df1s df2s
+      → w ≡ for 0 (length counts) (withPass times freqs (record { orbit = orbit; «center_freq» = center; «rec_ecef» = rec }) counts dts dfs df1s df2s) opening
+      → n ≡ ofInt binary64 (pos (w .at)) → r ≡ sqrtOf (w .sum ⊘ n) → r ≡ rmsOf counts times freqs centers rec orbit dts dfs df1s df2s
   mean {w = w} h k c e s g =
       g ∙ ap (λ (m : Float). sqrtOf (w .sum ⊘ m)) s ∙ ap meanRoot e
-      ∙ ap (λ (v : Float). meanRoot (for 0 (length counts) (withPass times freqs v orbit rec dts dfs df1s df2s counts) opening)) c
+      ∙ ap
+      (λ (v : Float). meanRoot (for 0 (length counts) (withPass times freqs (record { orbit = orbit; «center_freq» = v; «rec_ecef» = rec }) counts dts dfs df1s df2s) opening))
+      c
       ∙ sym (whole h k)
 
 -- ---- a pass's biases
@@ -97,8 +92,7 @@ module _ (counts : List ℕ) (p : ℕ) (dts dfs df1s df2s : List Float) where
   unfolding biasesOf
   no-samples h e = simp (le-ltb 16 (length counts) h, eq-eqb (getD counts p 0) 0 e)
 
-  pub with-samples : length counts ≤ 16 → (getD counts p 0 ≡ 0 → ⊥) → {q : ℕ} {t f f1 f2 : Float} → q ≡ length (nonEmpty (take p counts))
-      → t ≡ getD dts q nan → f ≡ getD dfs q nan → f1 ≡ getD df1s q nan → f2 ≡ getD df2s q nan
-      → record { sampled = true; dt = t; df = f; df1 = f1; df2 = f2 } ≡ biasesOf counts p dts dfs df1s df2s
+  pub with-samples : length counts ≤ 16 → (getD counts p 0 ≡ 0 → ⊥) → {q : ℕ} {b : Biases} → q ≡ length (nonEmpty (take p counts)) → b ≡ biasesAt dts dfs df1s df2s q
+      → b ≡ biasesOf counts p dts dfs df1s df2s
   unfolding biasesOf
-  with-samples h k e a b c d = rw (le-ltb 16 (length counts) h, ne-eqb (getD counts p 0) 0 k, a, b, c, d, e)
+  with-samples h k e a = rw (le-ltb 16 (length counts) h, ne-eqb (getD counts p 0) 0 k, ← e) a

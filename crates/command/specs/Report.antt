@@ -5,8 +5,8 @@ use mathlib.Core.List.{List}
 use lib.Dec.{ltb, eqb}
 use lib.IntN.{ℤ, pos}
 use lib.ListN.{length, getD, take}
-use lib.Ieee.{Float, nan, binary64, ofInt, toUnsigned}
-use Rattle.float.specs.Ops.{_⊕_, _⊖_, _⊗_, _⊘_, bits, absOf, roundOf}
+use lib.Ieee.{Float, nan, binary64, ofInt}
+use Rattle.float.specs.Ops.{_⊕_, _⊖_, _⊗_, _⊘_, bits}
 use Rattle.roots.specs.Root.{sqrtOf}
 use Rattle.loops.specs.Loop.{for}
 use Rattle.moment.specs.Sample.{timeInRange, momentAt}
@@ -18,6 +18,7 @@ use Rattle.orbit.specs.declared.doppler.Prediction.the-variants.{Frequency, Ref
 use Rattle.arguments.specs.Passes.{nonEmpty, centerOf}
 use Rattle.solution.specs.declared.SolvedOrbit.{SolvedOrbit}
 use Rattle.command.specs.declared.report.Biases.{Biases}
+use Rattle.command.specs.declared.report.Fitted.{Fitted}
 use Rattle.command.specs.declared.report.Pass.{Pass}
 use Rattle.command.specs.declared.report.Walk.{Walk}
 
@@ -38,43 +39,35 @@ frequencyOf (Frequency v) = v
 frequencyOf (Refused k) = nan
 
 -- a sample's frequency less centre and predicted shift
-unfoldable pub residualOf : Pass → Moment → Float → Float
-residualOf g m f =
+unfoldable pub residualOf : Fitted → Pass → Moment → Float → Float
+residualOf g b m f =
     let o = g .orbit in
-    f ⊖ (g .«center_freq» ⊕ frequencyOf (predictFrequencyPolyOf (o .a) (o .i) (o .raan0) (o .u0) (o .epoch) m (g .dt) (g .df) (g .since) (g .«center_freq») (g .«rec_ecef»)))
+    f ⊖ (g .«center_freq» ⊕ frequencyOf (predictFrequencyPolyOf (o .a) (o .i) (o .raan0) (o .u0) (o .epoch) m (b .dt) (b .df) (b .since) (g .«center_freq») (g .«rec_ecef»)))
 
--- the squares of the residuals from sample `at` up to `end`, added in order
-module _ (times : List ℤ) (freqs : List Float) where
+-- the biases of the q-th non-empty pass, and with them the pass whose first sample's moment is m
+abbrev pub biasesAt : List Float → List Float → List Float → List Float → ℕ → Biases
+biasesAt dts dfs df1s df2s q = record { sampled = true; dt = getD dts q nan; df = getD dfs q nan; df1 = getD df1s q nan; df2 = getD df2s q nan }
+
+abbrev pub passOf : Biases → Moment → Pass
+passOf b m = record { dt = b .dt; df = record { 0 = b .df; 1 = b .df1; 2 = b .df2 }; since = m }
+
+module _ (times : List ℤ) (freqs : List Float) (g : Fitted) where
+  -- the squares of the residuals from sample `at` up to `end`, added in order
   unfoldable pub squareOf : Pass → ℕ → Float → Float
-  squareOf g k sum = let r = residualOf g (sampleMoment times k) (getD freqs k nan) in sum ⊕ r ⊗ r
+  squareOf b k sum = let r = residualOf g b (sampleMoment times k) (getD freqs k nan) in sum ⊕ r ⊗ r
 
   unfoldable pub squaresOf : Pass → ℕ → ℕ → Float → Float
-  squaresOf g at end sum = for at end (squareOf g) sum
+  squaresOf b at end sum = for at end (squareOf b) sum
 
--- a pass of n samples more: the biases are those of the next non-empty pass
-abbrev pub passAt : (times : List ℤ) (center : Float) (orbit : SolvedOrbit) (rec : Vec3) (dts dfs df1s df2s : List Float) (at q : ℕ) → Pass
-passAt times center orbit rec dts dfs df1s df2s at q =
-    record {
-      dt = getD dts q nan;
-      df = record { 0 = getD dfs q nan; 1 = getD df1s q nan; 2 = getD df2s q nan };
-      since = sampleMoment times at;
-      «center_freq» = center;
-      orbit = orbit;
-      «rec_ecef» = rec;
-    }
+  -- a pass of n samples more
+  abbrev pub walkPass : Biases → ℕ → Walk → Walk
+  walkPass b zero w = w
+  walkPass b (suc n) w =
+      record { sum = squaresOf (passOf b (sampleMoment times (w .at))) (w .at) (w .at + suc n) (w .sum); at = w .at + suc n; passes = w .passes + 1 }
 
-module _ (times : List ℤ) (freqs : List Float) (center : Float) (orbit : SolvedOrbit) (rec : Vec3) (dts dfs df1s df2s : List Float) where
-  abbrev pub walkPass : ℕ → Walk → Walk
-  walkPass zero w = w
-  walkPass (suc n) w =
-      record {
-        sum = squaresOf times freqs (passAt times center orbit rec dts dfs df1s df2s (w .at) (w .passes)) (w .at) (w .at + suc n) (w .sum);
-        at = w .at + suc n;
-        passes = w .passes + 1;
-      }
-
-  abbrev pub withPass : List ℕ → ℕ → Walk → Walk
-  withPass counts p w = walkPass (getD counts p 0) w
+  -- pass p; its biases are those of the next non-empty pass
+  abbrev pub withPass : (counts : List ℕ) (dts dfs df1s df2s : List Float) (p : ℕ) (w : Walk) → Walk
+  withPass counts dts dfs df1s df2s p w = walkPass (biasesAt dts dfs df1s df2s (w .passes)) (getD counts p 0) w
 
 -- before the first pass
 abbrev pub opening : Walk
@@ -88,19 +81,12 @@ meanRoot w = sqrtOf (w .sum ⊘ ofInt binary64 (pos (w .at)))
 unfoldable pub rmsOf : (counts : List ℕ) (times : List ℤ) (freqs centers : List Float) (rec : Vec3) (orbit : SolvedOrbit) (dts dfs df1s df2s : List Float) → Float
 rmsOf counts times freqs centers rec orbit dts dfs df1s df2s =
     cond (ltb 16 (length counts) || not (eqb (length centers) (length counts))) nan
-    (meanRoot (for 0 (length counts) (withPass times freqs (centerOf counts centers) orbit rec dts dfs df1s df2s counts) opening))
+    (meanRoot (for 0 (length counts) (withPass times freqs (record { orbit = orbit; «center_freq» = centerOf counts centers; «rec_ecef» = rec }) counts dts dfs df1s df2s) opening))
 
 -- Pass p's biases: an empty pass has none, so they stand behind those of the non-empty passes before it.
 abbrev pub noBiases : Biases
 noBiases = record { sampled = false; dt = nan; df = nan; df1 = nan; df2 = nan }
 
-abbrev pub biasesAt : List Float → List Float → List Float → List Float → ℕ → Biases
-biasesAt dts dfs df1s df2s q = record { sampled = true; dt = getD dts q nan; df = getD dfs q nan; df1 = getD df1s q nan; df2 = getD df2s q nan }
-
 unfoldable pub biasesOf : (counts : List ℕ) (p : ℕ) (dts dfs df1s df2s : List Float) → Biases
 biasesOf counts p dts dfs df1s df2s =
     cond (ltb 16 (length counts) || eqb (getD counts p 0) 0) noBiases (biasesAt dts dfs df1s df2s (length (nonEmpty (take p counts))))
-
--- the size of v in parts of 1/per, to the nearest
-unfoldable pub unitsOf : Float → Float → ℕ
-unitsOf v per = toUnsigned 64 (roundOf (absOf v ⊗ per))

@@ -3,7 +3,7 @@ ghost use mathlib.Core.Path.{_≡_};
 ghost use Prim.Native.Nat.{_+_, _≤_};
 ghost use lib.ListN.{getD};
 ghost use lib.Ieee.{nan};
-ghost use Rattle.command.specs.Report.{momentIn, sampleMoment, frequencyOf, residualOf, squareOf, squaresOf, walkPass, rmsOf, noBiases, biasesOf, unitsOf};
+ghost use Rattle.command.specs.Report.{momentIn, sampleMoment, frequencyOf, residualOf, squareOf, squaresOf, biasesAt, walkPass, rmsOf, noBiases, biasesOf};
 use frame::Vec3;
 use moment::Moment;
 use orbit::doppler;
@@ -11,14 +11,18 @@ use orbit::doppler::DfPoly;
 use orbit::doppler::Prediction;
 use solution::SolvedOrbit;
 
-// What the samples of a pass share: biases, the first sample's moment, the fit's centre frequency and orbit, and the mast.
+// What all predictions share: the fit's orbit and centre frequency, and the mast.
+pub struct Fitted {
+    pub orbit: SolvedOrbit,
+    pub center_freq: f64,
+    pub rec_ecef: Vec3,
+}
+
+// What the samples of a pass share: its biases, and the first sample's moment.
 pub struct Pass {
     pub dt: f64,
     pub df: DfPoly,
     pub since: Moment,
-    pub center_freq: f64,
-    pub orbit: SolvedOrbit,
-    pub rec_ecef: Vec3,
 }
 
 // The biases of a pass that has samples; NaN of one that has none.
@@ -81,13 +85,13 @@ fn frequency(p: Prediction) -> f64
     }
 }
 
-fn residual(g: Pass, m: Moment, f: f64) -> f64
-    ensures { λ r. ⌜ r ≡ residualOf g m f ⌝ }
+fn residual(g: Fitted, b: Pass, m: Moment, f: f64) -> f64
+    ensures { λ r. ⌜ r ≡ residualOf g b m f ⌝ }
 {
     let o = g.orbit;
     let epoch = o.epoch;
-    let df = g.df;
-    let since = g.since;
+    let df = b.df;
+    let since = b.since;
     let rec = g.rec_ecef;
     let center = g.center_freq;
     let p = doppler::predict_frequency_poly(
@@ -97,7 +101,7 @@ fn residual(g: Pass, m: Moment, f: f64) -> f64
         o.u0,
         epoch,
         m,
-        g.dt,
+        b.dt,
         df,
         since,
         center,
@@ -107,62 +111,58 @@ fn residual(g: Pass, m: Moment, f: f64) -> f64
 }
 
 // The square of a sample's residual added.
-fn square(times: &[i64], freqs: &[f64], g: Pass, k: usize, sum: f64) -> f64
-    ensures { λ r. ⌜ r ≡ squareOf (now (times .entry)) (now (freqs .entry)) g k sum ⌝ }
+fn square(times: &[i64], freqs: &[f64], g: Fitted, b: Pass, k: usize, sum: f64) -> f64
+    ensures { λ r. ⌜ r ≡ squareOf (now (times .entry)) (now (freqs .entry)) g b k sum ⌝ }
 {
-    let r = residual(g, moment_at(times, k), number_at(freqs, k));
+    let r = residual(g, b, moment_at(times, k), number_at(freqs, k));
     sum + r * r
 }
 
-fn squares(times: &[i64], freqs: &[f64], g: Pass, at: usize, end: usize, sum: f64) -> f64
-    ensures { λ r. ⌜ r ≡ squaresOf (now (times .entry)) (now (freqs .entry)) g at end sum ⌝ }
+fn squares(times: &[i64], freqs: &[f64], g: Fitted, b: Pass, at: usize, end: usize, sum: f64) -> f64
+    ensures { λ r. ⌜ r ≡ squaresOf (now (times .entry)) (now (freqs .entry)) g b at end sum ⌝ }
 {
     let mut s = sum;
     for k in at..end {
-        s = square(times, freqs, g, k, s);
+        s = square(times, freqs, g, b, k, s);
     }
     s
 }
 
-// One pass more; an empty one has no biases.
-fn walk_pass(
-    times: &[i64],
-    freqs: &[f64],
-    center_freq: f64,
-    orbit: SolvedOrbit,
-    rec_ecef: Vec3,
-    dts: &[f64],
-    dfs: &[f64],
-    df1s: &[f64],
-    df2s: &[f64],
-    n: u32,
-    w: Walk,
-) -> Walk
+// Those of the q-th non-empty pass.
+fn biases_at(dts: &[f64], dfs: &[f64], df1s: &[f64], df2s: &[f64], q: usize) -> Biases
+    ensures { λ r. ⌜ r ≡ biasesAt (now (dts .entry)) (now (dfs .entry)) (now (df1s .entry)) (now (df2s .entry)) q ⌝ }
+{
+    Biases {
+        sampled: true,
+        dt: number_at(dts, q),
+        df: number_at(dfs, q),
+        df1: number_at(df1s, q),
+        df2: number_at(df2s, q),
+    }
+}
+
+// One pass more, of n samples; an empty one is nothing.
+fn walk_pass(times: &[i64], freqs: &[f64], g: Fitted, b: Biases, n: u32, w: Walk) -> Walk
     requires { ⌜ (w .at ≤ 68719476720) × (w .passes ≤ 16) ⌝ }
-    ensures { λ r. ⌜ (r ≡ walkPass (now (times .entry)) (now (freqs .entry)) «center_freq» orbit «rec_ecef» (now (dts .entry)) (now (dfs .entry)) (now (df1s .entry)) (now (df2s .entry)) n w) × (r .at ≤ w .at + 4294967295) × (r .passes ≤ w .passes + 1) ⌝ }
+    ensures { λ r. ⌜ (r ≡ walkPass (now (times .entry)) (now (freqs .entry)) g b n w) × (r .at ≤ w .at + 4294967295) × (r .passes ≤ w .passes + 1) ⌝ }
 {
     if n == 0 {
         return w;
     }
-    let q = w.passes;
     let at = w.at;
-    let df = DfPoly(number_at(dfs, q), number_at(df1s, q), number_at(df2s, q));
+    let df = DfPoly(b.df, b.df1, b.df2);
     let since = moment_at(times, at);
-    let dt = number_at(dts, q);
-    let g = Pass {
-        dt,
+    let pass = Pass {
+        dt: b.dt,
         df,
         since,
-        center_freq,
-        orbit,
-        rec_ecef,
     };
     let end = at + n as usize;
-    let sum = squares(times, freqs, g, at, end, w.sum);
+    let sum = squares(times, freqs, g, pass, at, end, w.sum);
     Walk {
         sum,
         at: end,
-        passes: q + 1,
+        passes: w.passes + 1,
     }
 }
 
@@ -188,26 +188,19 @@ pub fn rms(
     if centers.len() != counts.len() {
         return 0.0 / 0.0;
     }
-    let center = arguments::first_center(counts, centers);
+    let g = Fitted {
+        orbit,
+        center_freq: arguments::first_center(counts, centers),
+        rec_ecef,
+    };
     let mut w = Walk {
         sum: 0.0,
         at: 0,
         passes: 0,
     };
     for p in 0..counts.len() {
-        w = walk_pass(
-            times,
-            freqs,
-            center,
-            orbit,
-            rec_ecef,
-            dts,
-            dfs,
-            df1s,
-            df2s,
-            counts[p],
-            w,
-        );
+        let b = biases_at(dts, dfs, df1s, df2s, w.passes);
+        w = walk_pass(times, freqs, g, b, counts[p], w);
     }
     let n = w.at;
     roots::sqrt(w.sum / std::num::nearest_u64_to_f64(n as u64))
@@ -247,19 +240,5 @@ pub fn biases_of(
         return no_biases();
     }
     let before = arguments::non_empty(&counts[..p]);
-    let q = before.passes;
-    Biases {
-        sampled: true,
-        dt: number_at(dts, q),
-        df: number_at(dfs, q),
-        df1: number_at(df1s, q),
-        df2: number_at(df2s, q),
-    }
-}
-
-// The size of v in parts of 1/per, to the nearest, for printing.
-pub fn units(v: f64, per: f64) -> u64
-    ensures { λ r. ⌜ r ≡ unitsOf v per ⌝ }
-{
-    float::cast::saturating_f64_to_u64(float::round(float::abs(v) * per))
+    biases_at(dts, dfs, df1s, df2s, before.passes)
 }

@@ -28,9 +28,9 @@ non-empty-requires c κs = omega (arith, slice-aggregate-non-empty c, c .before 
 
 returns-4 : tie.Need-returns-4
 returns-4 c =
-    let e = c .before .before .before .before in
+    let e = c .before in
     let l = e .before .before in
-    with-samples _ _ _ _ _ _ (l .before .before .before .if1 .left) (l .if3 .left) (e .non-empty .ensures .number) (c .before .before .before .number-at .ensures) (c .before .before .number-at2 .ensures) (c .before .number-at3 .ensures) (c .number-at4 .ensures)
+    with-samples _ _ _ _ _ _ (l .before .before .before .if1 .left) (l .if3 .left) (e .non-empty .ensures .number) (c .biases-at .ensures)
 
 pub biases-of-spec : {M : Type 1} → statement M
 biases-of-spec =
@@ -46,8 +46,5 @@ biases-of-spec =
     returns-3
     slice-aggregate-non-empty
     non-empty-requires
-    (λ c κs. search needs)
-    (λ c κs. search needs)
-    (λ c κs. search needs)
     (λ c κs. search needs)
     returns-4)

@@ -13,13 +13,12 @@ use Rattle.command.proofs.report.rms.Statement.{statement}
 use Rattle.command.proofs.report.rms.Tie as tie
 
 abbrev Inv-loop : tie.InvT-loop
-Inv-loop counts times freqs centers rec-ecef orbit dts dfs df1s df2s center w₀ p₀ p-end w p =
+Inv-loop counts times freqs centers dts dfs df1s df2s g w₀ p₀ p-end w p =
     (p ≤ length counts) × (length counts ≤ 16) × (w .at ≤ p * 4294967295) × (w .passes ≤ p)
-    × Left p (length counts) (withPass times freqs center orbit rec-ecef dts dfs df1s df2s counts) w
-    (for 0 (length counts) (withPass times freqs center orbit rec-ecef dts dfs df1s df2s counts) opening)
+    × Left p (length counts) (withPass times freqs g counts dts dfs df1s df2s) w (for 0 (length counts) (withPass times freqs g counts dts dfs df1s df2s) opening)
 
 abbrev μ-loop : tie.MeasureT-loop
-μ-loop counts times freqs centers rec-ecef orbit dts dfs df1s df2s center w₀ p₀ p-end w p = length counts - p
+μ-loop counts times freqs centers dts dfs df1s df2s g w₀ p₀ p-end w p = length counts - p
 
 returns : tie.Need-returns Inv-loop μ-loop
 unfolding ofBits div
@@ -34,16 +33,18 @@ loop-holds c = (omega arith, c .before .before .if1 .left, omega arith, omega ar
 
 walk-pass-requires : tie.Need-walk-pass-requires Inv-loop μ-loop
 walk-pass-requires c κs =
-    let i = c .before .before .loop .inv in
-    let t = c .before .loop-test .taken in
+    let l = c .before .before in
+    let t = l .loop-test .taken in
+    let i = l .before .loop .inv in
     (omega (arith, i .1, i .2, t), omega (arith, i .1, i .3, t))
 
 loop-again : tie.Need-loop-again Inv-loop μ-loop
 loop-again c =
-    let i = c .before .before .before .loop .inv in
-    let t = c .before .before .loop-test .taken in
+    let b = c .before .before in
+    let t = b .before .loop-test .taken in
+    let i = b .before .before .loop .inv in
     let e = c .walk-pass .ensures in
-    (omega (arith, t), i .1, omega (arith, e .1, i .2), omega (arith, e .2, i .3), again t (i .4) (e .0))
+    (omega (arith, t), i .1, omega (arith, e .1, i .2), omega (arith, e .2, i .3), again t (i .4) (rw (b .biases-at .ensures) at (e .0)))
 
 returns-3 : tie.Need-returns-3 Inv-loop μ-loop
 returns-3 c =
@@ -63,6 +64,7 @@ rms-spec =
     returns-2
     (λ c κs. search needs)
     loop-holds
+    (λ c κs. search needs)
     (λ c. search needs)
     (λ c. search needs)
     walk-pass-requires

@@ -6,10 +6,10 @@ use Rattle.command.proofs.report.squares.Statement.{statement}
 use Rattle.command.proofs.report.squares.Tie as tie
 
 abbrev Inv-loop : tie.InvT-loop
-Inv-loop times freqs g at end sum s₀ k₀ s k = Left k end (squareOf times freqs g) s (squaresOf times freqs g at end sum)
+Inv-loop times freqs g b at end sum s₀ k₀ s k = Left k end (squareOf times freqs g b) s (squaresOf times freqs g b at end sum)
 
 abbrev μ-loop : tie.MeasureT-loop
-μ-loop times freqs g at end sum s₀ k₀ s k = end - k
+μ-loop times freqs g b at end sum s₀ k₀ s k = end - k
 
 pub squares-spec : {M : Type 1} → statement M
 unfolding squaresOf
