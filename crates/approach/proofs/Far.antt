@@ -27,7 +27,7 @@ use Rattle.orbit.specs.Doppler.{adjustedOf, correctedOf, driftOf, epochCount, s
 use Rattle.orbit.proofs.Predicts.{accepted}
 use Rattle.orbit.proofs.Hoisted.{predicted-at}
 use Rattle.approach.specs.Sums.{frequencyOf, predictionAt, Shifted}
-use Rattle.approach.specs.Turns.{Seen, Shift}
+use Rattle.approach.specs.Turns.{reach, Seen, Shift}
 
 -- ---- a moment moved by a little
 
@@ -53,7 +53,7 @@ not-over n l h = simp (le-ltb n (earliest * perSecond) l, le-ltb (latest * perSe
 
 -- ---- a difference of two moments near the range
 
-pub shift : (p o : Instant) {dt : Float} → Within 622 (p .secs) (p .nanos) → Within 622 (o .secs) (o .nanos)
+pub shift : (p o : Instant) {dt : Float} → Within reach (p .secs) (p .nanos) → Within reach (o .secs) (o .nanos)
     → dt ≡ tauMillisOf (nanosOf (p .secs) (p .nanos)) (nanosOf (o .secs) (o .nanos)) → Shift dt
 shift p o v w e = record { to = nanosOf (p .secs) (p .nanos); from = nanosOf (o .secs) (o .nanos); is = e; after = omega arith; before = omega arith }
 

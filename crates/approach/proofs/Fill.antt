@@ -15,7 +15,7 @@ use Rattle.float.specs.declared.trig.SinCos.{SinCos}
 use Rattle.pass_set.specs.PassSet.{passOf, countOf, total, AtPass}
 use Rattle.pass_set.proofs.Laws.{start-zero, start-last, pass-part}
 use Rattle.approach.specs.Pca.{obsPcaTime}
-use Rattle.approach.specs.Turns.{PassSet, Entry, Held, Window, window, Windowed, Tabled, putTurn, Kept, Written, seconds, moments, PassWritten, SetWritten}
+use Rattle.approach.specs.Turns.{entries, PassSet, Entry, Held, Window, window, Windowed, Tabled, putTurn, Kept, Written, seconds, moments, PassWritten, SetWritten}
 
 -- ---- one entry
 
@@ -64,7 +64,7 @@ keep-entry {at} {j} k h e =
 keep-held : {at j secs nanos : ℕ} {old new : List Float} → Kept at old new → j < at → Held old j secs nanos → Held new j secs nanos
 keep-held k h e = record { entry = λ some. keep-entry k h (e .entry (rw (← k .same) some)) }
 
-pub keep-windowed : {at more : ℕ} {center : Float} {times : List ℤ} {freqs old new : List Float} → Kept more old new → at + 1245 ≤ more
+pub keep-windowed : {at more : ℕ} {center : Float} {times : List ℤ} {freqs old new : List Float} → Kept more old new → at + entries ≤ more
     → Windowed old at center times freqs → Windowed new at center times freqs
 keep-windowed k h w = record { seen = λ some. record { small = w .seen some .small; each = λ j l. keep-held k (omega (arith, h, l)) (w .seen some .each j l) } }
 
@@ -96,11 +96,11 @@ module _ (t : ℕ → Instant) (at : ℕ) where
 pub pass-none : (at : ℕ) (center : Float) (times : List ℤ) (freqs table : List Float) → length freqs ≡ 0 → PassWritten at center times freqs table table
 pass-none at center times freqs table e = record { kept = kept-none at table; windowed = record { seen = λ h. absurd (omega (arith, h, e)) } }
 
-seconds-window : (at : ℕ) (m : Instant) (old new : List Float) → at ≤ 100000 → Written (seconds m) at 1245 old new → Window new at (window m) (m .nanos)
+seconds-window : (at : ℕ) (m : Instant) (old new : List Float) → at ≤ 100000 → Written (seconds m) at entries old new → Window new at (window m) (m .nanos)
 seconds-window at m old new h w = record { small = h; each = λ j l. record { entry = λ _. w .each j l } }
 
 pub pass-filled : (at : ℕ) (center : Float) (times : List ℤ) (freqs old new : List Float) (m : Instant) → m ≡ obsPcaTime times freqs center → at ≤ 100000
-    → Written (seconds m) at 1245 old new → PassWritten at center times freqs old new
+    → Written (seconds m) at entries old new → PassWritten at center times freqs old new
 pass-filled at center times freqs old new m e h w = record { kept = w .kept; windowed = record { seen = λ _. rw (← e) (seconds-window at m old new h w) } }
 
 -- of the part from k on
@@ -111,22 +111,22 @@ part-written times freqs a w = rw (pass-part times a, pass-part freqs a) at w
 
 -- the windows of the first passes
 pub record Windows (table : List Float) (first : Float) (counts : List ℕ) (times : List ℤ) (freqs : List Float) (p : ℕ) : Type 0 where
-  pub each : (q : ℕ) → q < p → Windowed table (1245 * q) first (passOf counts q times) (passOf counts q freqs)
+  pub each : (q : ℕ) → q < p → Windowed table (entries * q) first (passOf counts q times) (passOf counts q freqs)
 
 module _ (first : Float) (counts : List ℕ) (times : List ℤ) (freqs : List Float) where
   pub windows-none : (table : List Float) → Windows table first counts times freqs 0
   windows-none table = record { each = λ q h. absurd (omega (arith, h)) }
 
-  window-more : (p q : ℕ) (old new : List Float) → PassWritten (1245 * p) first (passOf counts p times) (passOf counts p freqs) old new → Windows old first counts times freqs p
-      → (q ≡ p) ⊎ (q < p) → Windowed new (1245 * q) first (passOf counts q times) (passOf counts q freqs)
+  window-more : (p q : ℕ) (old new : List Float) → PassWritten (entries * p) first (passOf counts p times) (passOf counts p freqs) old new → Windows old first counts times freqs p
+      → (q ≡ p) ⊎ (q < p) → Windowed new (entries * q) first (passOf counts q times) (passOf counts q freqs)
   window-more p q old new w a (inl e) = rw e (w .windowed)
   window-more p q old new w a (inr l) = keep-windowed (w .kept) (omega (arith, l)) (a .each q l)
 
-  pub windows-more : (p : ℕ) (old new : List Float) → PassWritten (1245 * p) first (passOf counts p times) (passOf counts p freqs) old new → Windows old first counts times freqs p
+  pub windows-more : (p : ℕ) (old new : List Float) → PassWritten (entries * p) first (passOf counts p times) (passOf counts p freqs) old new → Windows old first counts times freqs p
       → Windows new first counts times freqs (p + 1)
   windows-more p old new w a = record { each = λ q h. let m : q ≤ p = omega arith in window-more p q old new w a (eq-or-lt-of-le m) }
 
-  pub tabled : (old new : List Float) → length counts ≤ 16 → Windows old first counts times freqs (length counts) → Written (moments times) (1245 * length counts) (length times) old new
+  pub tabled : (old new : List Float) → length counts ≤ 16 → Windows old first counts times freqs (length counts) → Written (moments times) (entries * length counts) (length times) old new
       → Tabled new first counts times freqs
   tabled old new few a w =
       record {

@@ -20,7 +20,7 @@ use Rattle.orbit.proofs.Hoisted.{propagated-at}
 use Rattle.approach.specs.declared.Closest.{Closest}
 use Rattle.approach.specs.declared.Stage.{Stage}
 use Rattle.approach.specs.Pca.{squareOf, squareAt, closerOf}
-use Rattle.approach.specs.Turns.{Seen, Around, Beside, Held, Window}
+use Rattle.approach.specs.Turns.{reach, Seen, Around, Beside, Held, Window}
 
 -- ---- one moment
 
@@ -45,23 +45,23 @@ module _ (v : Sight) (secs nanos : ℕ) (s : Closest) (turn : SinCos) (tau : Flo
 -- ---- the moments of a stage
 
 -- moment m of n is at most 2 * half after the first
-reach : (half step n m : ℕ) → m < n → step * n ≤ 2 * half + step → step * m ≤ 2 * half
-reach half step n m h l =
+last : (half step n m : ℕ) → m < n → step * n ≤ 2 * half + step → step * m ≤ 2 * half
+last half step n m h l =
     let g : step * suc m ≤ step * n = mul-le-mul-left step h in
     omega (arith, mul-suc step m)
 
 -- its seconds: in the window
 pub record Inside (base half secs x : ℕ) : Type 0 where
   pub low : base ≤ x
-  pub high : x ≤ base + 1244
+  pub high : x ≤ base + 2 * reach
   pub near : Beside half secs x
 
 pub inside : (base : ℕ) (w : Stage) (secs nanos m : ℕ) → Around base w secs nanos → m < w .n → Inside base (w .half) secs (secs - w .half + w .step * m)
 inside base w secs nanos m a h =
-    let r = reach (w .half) (w .step) (w .n) m h (a .reach) in
+    let r = last (w .half) (w .step) (w .n) m h (a .spans) in
     record { low = omega arith; high = omega arith; near = record { low = omega arith; high = omega arith } }
 
-pub inside-within : {base : ℕ} {w : Stage} {secs nanos : ℕ} (x : ℕ) → Around base w secs nanos → Inside base (w .half) secs x → Within 622 x nanos
+pub inside-within : {base : ℕ} {w : Stage} {secs nanos : ℕ} (x : ℕ) → Around base w secs nanos → Inside base (w .half) secs x → Within reach x nanos
 inside-within x a i = record { low = omega arith; high = omega arith; part = a .part }
 
 -- its entry

@@ -12,7 +12,7 @@ use Rattle.moment.specs.declared.Instant.{Instant}
 use Rattle.moment.specs.Sample.{instantAt}
 use Rattle.pass_set.specs.PassSet.{countOf, startOf, passOf, total, AtPass}
 use Rattle.pass_set.proofs.Laws.{start-fits, pass-length, pass-at}
-use Rattle.approach.specs.Turns.{PassSet, Entry, Held, Window, window, Windowed, Sampled, Tabled}
+use Rattle.approach.specs.Turns.{entries, PassSet, Entry, Held, Window, window, Windowed, Sampled, Tabled}
 use Rattle.approach.specs.Pca.{obsPcaTime}
 
 pub entry : {table : List Float} {j secs nanos : ℕ} → Held table j secs nanos → (length table ≡ 0 → ⊥) → Entry table j secs nanos
@@ -37,7 +37,7 @@ module _ (table : List Float) (none : length table ≡ 0) where
   pub no-table : (first : Float) (counts : List ℕ) (times : List ℤ) (freqs : List Float) → length counts ≤ 16 → Tabled table first counts times freqs
   no-table first counts times freqs few =
       record {
-        windows = λ p h. no-windowed (1245 * p) first (passOf counts p times) (passOf counts p freqs) (omega (arith, h, few));
+        windows = λ p h. no-windowed (entries * p) first (passOf counts p times) (passOf counts p freqs) (omega (arith, h, few));
         samples = record { small = omega (arith, few); each = λ j _. no-entry _ _ _ };
       }
 
@@ -47,7 +47,7 @@ held-at : (table : List Float) (i j : ℕ) (t u : ℤ) → i ≡ j → t ≡ u �
 held-at table i j t u p q h = rw (← p, ← q) h
 
 pub pass-sampled : (table : List Float) (first : Float) (counts : List ℕ) (times : List ℤ) (freqs centers : List Float) (p k : ℕ)
-    → PassSet counts times freqs centers → p < length counts → AtPass counts p k → Tabled table first counts times freqs → Sampled table (1245 * length counts + k) (passOf counts p times)
+    → PassSet counts times freqs centers → p < length counts → AtPass counts p k → Tabled table first counts times freqs → Sampled table (entries * length counts + k) (passOf counts p times)
 pass-sampled table first counts times freqs centers p k s h a t =
     let whole : total counts ≡ length times = s .sizes .whole in
     let few : length counts ≤ 16 = s .sizes .few in
@@ -59,8 +59,8 @@ pass-sampled table first counts times freqs centers p k s h a t =
       small = omega arith;
       each = λ j l.
           let i : j < countOf counts p = omega arith in
-          let same : 1245 * length counts + (startOf counts p + j) ≡ 1245 * length counts + k + j = omega arith in
-          held-at table (1245 * length counts + (startOf counts p + j)) (1245 * length counts + k + j) (getD times (startOf counts p + j) (pos 0)) (getD (passOf counts p times) j (pos 0))
+          let same : entries * length counts + (startOf counts p + j) ≡ entries * length counts + k + j = omega arith in
+          held-at table (entries * length counts + (startOf counts p + j)) (entries * length counts + k + j) (getD times (startOf counts p + j) (pos 0)) (getD (passOf counts p times) j (pos 0))
           same (sym (pass-at counts p j times (pos 0) i)) (t .samples .each (startOf counts p + j) (omega arith));
     }
 

@@ -20,6 +20,13 @@ use Rattle.orbit.specs.Doppler.{sightOf}
 use Rattle.approach.specs.declared.Stage.{Stage}
 use Rattle.approach.specs.Pca.{obsPcaTime}
 
+-- the closest search reaches 600 + 20 + 2 seconds at most to both sides of an observed moment; a pass has an entry for each of these seconds
+abbrev pub reach : ℕ
+reach = 622
+
+abbrev pub entries : ℕ
+entries = 1245
+
 -- of an orbit seen from a station: what is worked out before, and an epoch that passed refusal 4
 pub record Seen (v : Sight) : Type 0 where
   pub is : v ≡ sightOf (v .station) (v .e)
@@ -44,14 +51,14 @@ pub record Shift (dt : Float) : Type 0 where
   pub after : to < from + 4000000000000000000
   pub before : from < to + 4000000000000000000
 
--- ---- a search's stage around secs: its moments reach half seconds to both sides and stay in the window, the 1,244 s from base on
+-- ---- a search's stage around secs: its moments reach half seconds to both sides and stay in the window, twice the reach from base on
 
 pub record Around (base : ℕ) (w : Stage) (secs nanos : ℕ) : Type 0 where
   pub low : base + w .half ≤ secs
-  pub high : secs + w .half ≤ base + 1244
-  pub reach : w .step * w .n ≤ 2 * w .half + w .step
-  pub early : start1957 ≤ base + 622
-  pub late : base + 622 < start2057
+  pub high : secs + w .half ≤ base + 2 * reach
+  pub spans : w .step * w .n ≤ 2 * w .half + w .step
+  pub early : start1957 ≤ base + reach
+  pub late : base + reach < start2057
   pub part : nanos < perSecond
 
 -- secs is at most half seconds from mid
@@ -74,11 +81,11 @@ pub record Held (table : List Float) (j secs nanos : ℕ) : Type 0 where
 -- the window: 1,245 entries from at on are for the seconds from base on
 pub record Window (table : List Float) (at base nanos : ℕ) : Type 0 where
   pub small : at ≤ 100000
-  pub each : (j : ℕ) → j < 1245 → Held table (at + j) (base + j) nanos
+  pub each : (j : ℕ) → j < entries → Held table (at + j) (base + j) nanos
 
 -- where a moment's window begins
 abbrev pub window : Instant → ℕ
-window t = t .secs - 622
+window t = t .secs - reach
 
 -- one pass's window, around its observed closest moment by a centre
 pub record Windowed (table : List Float) (at : ℕ) (center : Float) (times : List ℤ) (freqs : List Float) : Type 0 where
@@ -91,8 +98,8 @@ pub record Sampled (table : List Float) (at : ℕ) (times : List ℤ) : Type 0 w
 
 -- a pass set's table; first is the centre by which the observed moments are chosen
 pub record Tabled (table : List Float) (first : Float) (counts : List ℕ) (times : List ℤ) (freqs : List Float) : Type 0 where
-  pub windows : (p : ℕ) → p < length counts → Windowed table (1245 * p) first (passOf counts p times) (passOf counts p freqs)
-  pub samples : Sampled table (1245 * length counts) times
+  pub windows : (p : ℕ) → p < length counts → Windowed table (entries * p) first (passOf counts p times) (passOf counts p freqs)
+  pub samples : Sampled table (entries * length counts) times
 
 -- ---- filling it
 

@@ -6,7 +6,7 @@ ghost use lib.IntN.{pos};
 ghost use Rattle.moment.specs.Range.{Within};
 ghost use Rattle.moment.specs.Sample.{Timed, instantAt, sinceOf};
 ghost use Rattle.approach.specs.Pca.{nearerOf, obsPcaAt, obsPcaTime, squareOf, closerOf, searchedOf, closestOf, predPcaTime, pcaTimesOf};
-ghost use Rattle.approach.specs.Turns.{Seen, Samples, PassSet, Around, Beside, Window, Held, Windowed, window};
+ghost use Rattle.approach.specs.Turns.{reach, Seen, Samples, PassSet, Around, Beside, Window, Held, Windowed, window};
 use crate::Closest;
 use crate::Nearest;
 use crate::Stage;
@@ -69,7 +69,7 @@ fn square(s: State, rec: Vec3) -> f64
 
 // By entry j of a table.
 fn closer(v: Sight, table: &[f64], j: usize, t: Instant, s: Closest) -> Closest
-    requires { ⌜ Seen v × Within 622 (t .secs) (t .nanos) × Held (now table) j (t .secs) (t .nanos) ⌝ }
+    requires { ⌜ Seen v × Within reach (t .secs) (t .nanos) × Held (now table) j (t .secs) (t .nanos) ⌝ }
     ensures { λ r. ⌜ r ≡ closerOf (v .station) (v .e) (t .nanos) (t .secs) s ⌝ }
 {
     let turn = crate::turns::turn_at(table, j, t);
@@ -111,7 +111,7 @@ fn search_around(
 // Each stage starts from the best so far.
 fn closest(v: Sight, table: &[f64], at: usize, t: Instant) -> Instant
     requires { ⌜ Seen v × Within 0 (t .secs) (t .nanos) × Window (now table) at (window t) (t .nanos) ⌝ }
-    ensures { λ r. ⌜ (r ≡ closestOf (v .station) (v .e) t) × Within 622 (r .secs) (r .nanos) ⌝ }
+    ensures { λ r. ⌜ (r ≡ closestOf (v .station) (v .e) t) × Within reach (r .secs) (r .nanos) ⌝ }
 {
     let nanos = t.nanos;
     let base = t.secs - crate::turns::REACH;
@@ -153,7 +153,7 @@ pub fn pred_pca_time(
     freqs: &[f64],
 ) -> Instant
     requires { ⌜ Seen v × Samples (now times) (now freqs) × Windowed (now table) at first (now times) (now freqs) ⌝ }
-    ensures { λ r. ⌜ (r ≡ predPcaTime (v .station) (v .e) first (now (times .entry)) (now (freqs .entry))) × Within 622 (r .secs) (r .nanos) ⌝ }
+    ensures { λ r. ⌜ (r ≡ predPcaTime (v .station) (v .e) first (now (times .entry)) (now (freqs .entry))) × Within reach (r .secs) (r .nanos) ⌝ }
 {
     if freqs.len() == 0 {
         return v.station.epoch;

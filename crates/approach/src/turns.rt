@@ -6,7 +6,7 @@ ghost use lib.ListN.{length};
 ghost use Rattle.frame.specs.Rotation.{turnAt};
 ghost use Rattle.moment.specs.Range.{Within};
 ghost use Rattle.moment.specs.Sample.{Timed};
-ghost use Rattle.approach.specs.Turns.{Samples, PassSet, Held, putTurn, Written, seconds, moments, PassWritten, SetWritten};
+ghost use Rattle.approach.specs.Turns.{reach, entries, Samples, PassSet, Held, putTurn, Written, seconds, moments, PassWritten, SetWritten};
 use float::trig::SinCos;
 use moment::Instant;
 
@@ -18,7 +18,7 @@ pub const WINDOW: usize = 1245;
 
 // By entry j of a table, if there is one.
 pub fn turn_at(table: &[f64], j: usize, t: Instant) -> SinCos
-    requires { ⌜ Within 622 (t .secs) (t .nanos) × Held (now table) j (t .secs) (t .nanos) ⌝ }
+    requires { ⌜ Within reach (t .secs) (t .nanos) × Held (now table) j (t .secs) (t .nanos) ⌝ }
     ensures { λ r. ⌜ r ≡ turnAt (t .secs) (t .nanos) ⌝ }
 {
     if table.len() == 0 {
@@ -31,7 +31,7 @@ pub fn turn_at(table: &[f64], j: usize, t: Instant) -> SinCos
 }
 
 fn put_turn(table: &mut [f64], j: usize, t: Instant)
-    requires { ⌜ Within 622 (t .secs) (t .nanos) × (2 * j + 1 < length (now table)) ⌝ }
+    requires { ⌜ Within reach (t .secs) (t .nanos) × (2 * j + 1 < length (now table)) ⌝ }
     ensures { λ _. ⌜ now (table .exit) ≡ putTurn (now (table .entry)) j (t .secs) (t .nanos) ⌝ }
 {
     let turn = frame::rotation(frame::jd_at(t));
@@ -41,8 +41,8 @@ fn put_turn(table: &mut [f64], j: usize, t: Instant)
 
 // The seconds from 622 before t to 622 after, into the entries from `at` on.
 fn fill_window(table: &mut [f64], at: usize, t: Instant)
-    requires { ⌜ Within 0 (t .secs) (t .nanos) × (2 * (at + 1245) ≤ length (now table)) ⌝ }
-    ensures { λ _. ⌜ Written (seconds t) at 1245 (now (table .entry)) (now (table .exit)) ⌝ }
+    requires { ⌜ Within 0 (t .secs) (t .nanos) × (2 * (at + entries) ≤ length (now table)) ⌝ }
+    ensures { λ _. ⌜ Written (seconds t) at entries (now (table .entry)) (now (table .exit)) ⌝ }
 {
     let base = t.secs - REACH;
     let nanos = t.nanos;
@@ -64,7 +64,7 @@ fn fill_samples(table: &mut [f64], at: usize, times: &[i64])
 
 // The window of one pass, around its sample closest to the centre; an empty pass has none.
 fn fill_pass(table: &mut [f64], at: usize, center: f64, times: &[i64], freqs: &[f64])
-    requires { ⌜ Samples (now times) (now freqs) × (at ≤ 100000) × (2 * (at + 1245) ≤ length (now table)) ⌝ }
+    requires { ⌜ Samples (now times) (now freqs) × (at ≤ 100000) × (2 * (at + entries) ≤ length (now table)) ⌝ }
     ensures { λ _. ⌜ PassWritten at center (now (times .entry)) (now (freqs .entry)) (now (table .entry)) (now (table .exit)) ⌝ }
 {
     if freqs.len() == 0 {
@@ -75,7 +75,7 @@ fn fill_pass(table: &mut [f64], at: usize, center: f64, times: &[i64], freqs: &[
 
 // The table of a pass set: 1,245 entries a pass and one a sample, of two numbers each.
 pub fn fill(counts: &[u32], times: &[i64], freqs: &[f64], centers: &[f64], table: &mut [f64])
-    requires { ⌜ PassSet (now counts) (now times) (now freqs) (now centers) × (2 * (1245 * length (now counts) + length (now times)) ≤ length (now table)) ⌝ }
+    requires { ⌜ PassSet (now counts) (now times) (now freqs) (now centers) × (2 * (entries * length (now counts) + length (now times)) ≤ length (now table)) ⌝ }
     ensures { λ _. ⌜ SetWritten (now (counts .entry)) (now (times .entry)) (now (freqs .entry)) (now (centers .entry)) (now (table .entry)) (now (table .exit)) ⌝ }
 {
     if counts.len() == 0 {

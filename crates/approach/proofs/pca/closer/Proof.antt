@@ -2,12 +2,13 @@
 use borrow.Author.Needs.{needs}
 use lib.Dec.{lit≤}
 use Rattle.moment.proofs.Samples.{within-sound}
+use Rattle.approach.specs.Turns.{reach}
 use Rattle.approach.proofs.Stages.{closer-taken, closer-left}
 use Rattle.approach.proofs.pca.closer.Statement.{statement}
 use Rattle.approach.proofs.pca.closer.Tie as tie
 
 tau-requires : tie.Need-tau-requires
-tau-requires c κs = let a = c .before .before in (within-sound 622 _ _ (lit≤ tt) (a .pre .1), within-sound 0 _ _ (lit≤ tt) (a .pre .0 .within))
+tau-requires c κs = let a = c .before .before in (within-sound reach _ _ (lit≤ tt) (a .pre .1), within-sound 0 _ _ (lit≤ tt) (a .pre .0 .within))
 
 returns : tie.Need-returns
 returns c =

@@ -4,6 +4,7 @@ use borrow.Author.Tests.{eq-eqb, ne-eqb}
 use lib.Dec.{lit≤}
 use Rattle.moment.proofs.Samples.{within-sound, within-more}
 use Rattle.approach.specs.Sums.{passSumOf, dtOf, hundred-bits}
+use Rattle.approach.specs.Turns.{reach}
 use Rattle.approach.proofs.Far.{shift}
 use Rattle.approach.proofs.sums.pass_sum.Statement.{statement}
 use Rattle.approach.proofs.sums.pass_sum.Tie as tie
@@ -14,7 +15,7 @@ returns c = simp (eq-eqb _ _ (c .if1 .taken))
 
 tau-millis-requires : tie.Need-tau-millis-requires
 tau-millis-requires c κs =
-    (within-sound 622 _ _ (lit≤ tt) (c .before .pred-pca-time .ensures .1), within-sound 0 _ _ (lit≤ tt) (c .obs-pca-time .ensures .1))
+    (within-sound reach _ _ (lit≤ tt) (c .before .pred-pca-time .ensures .1), within-sound 0 _ _ (lit≤ tt) (c .obs-pca-time .ensures .1))
 
 samples-requires : tie.Need-samples-requires
 samples-requires c κs =

@@ -4,7 +4,7 @@ use Prim.Native.Nat.{ℕ, _+_, _-_, _≤_}
 use native.Mathlib.Omega.{arith}
 use Rattle.loops.proofs.Laws.{loops}
 use Rattle.moment.specs.declared.Instant.{Instant}
-use Rattle.approach.specs.Turns.{Written}
+use Rattle.approach.specs.Turns.{entries, Written}
 use Rattle.approach.proofs.Fill.{written-none, written-more}
 use Rattle.approach.proofs.turns.fill_window.Statement.{statement}
 use Rattle.approach.proofs.turns.fill_window.Tie as tie
@@ -13,10 +13,10 @@ abbrev from : ℕ → ℕ → ℕ → Instant
 from base nanos j = record { secs = base + j; nanos = nanos }
 
 abbrev Inv-loop : tie.InvT-loop
-Inv-loop table₀ at base nanos j₀ table j = (j ≤ 1245) × Written (from base nanos) at j table₀ table
+Inv-loop table₀ at base nanos j₀ table j = (j ≤ entries) × Written (from base nanos) at j table₀ table
 
 abbrev μ-loop : tie.MeasureT-loop
-μ-loop table₀ at base nanos j₀ table j = 1245 - j
+μ-loop table₀ at base nanos j₀ table j = entries - j
 
 loop-holds : tie.Need-loop-holds Inv-loop μ-loop
 loop-holds c = (search loops, written-none _ _ _)
@@ -43,7 +43,7 @@ same-length c = c .before .loop .inv .1 .kept .same
 returns : tie.Need-returns Inv-loop μ-loop
 returns c =
     let h = c .before in
-    let e : h .loop .j ≡ 1245 = omega (arith, c .loop-test .left, h .loop .inv .0) in
+    let e : h .loop .j ≡ entries = omega (arith, c .loop-test .left, h .loop .inv .0) in
     rw e at (h .loop .inv .1)
 
 pub fill-window-spec : {M : Type 1} → statement M
