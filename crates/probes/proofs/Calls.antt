@@ -1,17 +1,16 @@
 -- What a call that is not refused knows, and what its parts give it. Assumes nothing.
 use mathlib.Core.Path.{_≡_, refl, sym, ap, subst, _∙_}
 use mathlib.Core.Bool.{Bool, true, false, not, true≢false}
-use mathlib.Core.List.{List, [], _∷_, _++_, append-assoc}
+use mathlib.Core.List.{List, [], _∷_, _++_}
 use mathlib.Core.Option.{Option, none, some}
-use Prim.Native.Nat.{ℕ, zero, suc, _+_, _*_, _≤_, _<_}
+use Prim.Native.Nat.{ℕ, zero, suc, _*_, _≤_, _<_}
 use native.Mathlib.Omega.{arith}
 use native.Mathlib.Nat.{mul-le-mul, le-of-eq}
-use native.Mathlib.Numerals.{add-one}
 use lib.Dec.{leb, ltb}
 use lib.IntN.{ℤ, pos}
-use lib.ListN.{length, getD, set, take, drop, replicate}
-use lib.Seq.{take-all, take-at, take-suc, take-length, drop-cons, set-at, length-take-le}
-use lib.Ieee.{Float, nan}
+use lib.ListN.{length, getD, take, drop, replicate}
+use lib.Seq.{take-all, take-at, length-take-le}
+use lib.Ieee.{Float}
 use borrow.Author.Tests.{ltb-false, ne-eqb}
 use Rattle.refusal.specs.Numbers.{moment-range, sizes, short-memory}
 use Rattle.refusal.specs.Order.{_if_, first}
@@ -147,28 +146,6 @@ part-taken {times} {xs} counts freqs ys a p =
 
 pub part-turned : {times : List ℤ} {xs : List ℕ} {turns : List Float} (ys : List ℕ) → Prepared times xs turns → Rotations (take (length times) (xs ++ ys)) turns
 part-turned ys p = rw (part ys p) (p .rotations)
-
--- ---- a copy
-
--- one more number behind those written
-more : (done : List Float) (v : Float) (old out : List Float) (n : ℕ) → length done ≡ n → n < length old → out ≡ done ++ drop n old
-    → set out n v ≡ (done ++ (v ∷ [])) ++ drop (n + 1) old
-more done v old out n size h e =
-    ap (λ (l : List Float). set l n v) (e ∙ ap (done ++_) (drop-cons old n nan h))
-    ∙ set-at done _ (drop (suc n) old) v n size
-    ∙ sym (append-assoc done (v ∷ []) (drop (suc n) old))
-    ∙ ap (λ (k : ℕ). (done ++ (v ∷ [])) ++ drop k old) (sym (add-one n))
-
-pub put-more : (from old out : List Float) (p : ℕ) → p < length from → p < length old → out ≡ take p from ++ drop p old
-    → set out p (getD from p nan) ≡ take (p + 1) from ++ drop (p + 1) old
-put-more from old out p h k e =
-    more (take p from) _ old out p (length-take-le p from (omega arith)) k e
-    ∙ ap (λ (l : List Float). l ++ drop (p + 1) old) (sym (ap (λ (n : ℕ). take n from) (add-one p) ∙ take-suc from p nan h))
-
-pub put-all : (from old out : List Float) (p : ℕ) → p ≤ length from → length from ≤ p → out ≡ take p from ++ drop p old → out ≡ from ++ drop (length from) old
-put-all from old out p h k e =
-    let same : p ≡ length from = omega arith in
-    rw (same, take-length) at e
 
 pub put-fits : (n m : ℕ) (l : List Float) → n ≤ length l → n ≤ m → length (take n l) ≤ m
 put-fits n m l h k = rw (length-take-le n l h) k

@@ -5,9 +5,8 @@
 pub mod exported;
 
 ghost use mathlib.Core.Path.{_≡_};
-ghost use mathlib.Core.List.{_++_};
 ghost use Prim.Native.Nat.{_*_, _≤_};
-ghost use lib.ListN.{length, getD, drop};
+ghost use lib.ListN.{length, getD};
 ghost use Rattle.float.specs.Ops.{bits};
 ghost use Rattle.moment.specs.Range.{Within};
 ghost use Rattle.moment.specs.Sample.{Timed};
@@ -197,16 +196,6 @@ fn prepare(times: &[i64], counted: &mut [u64], turns: &mut [f64])
     residuals::rotations(counted, turns);
 }
 
-// Writes the numbers to the first places of out.
-fn put(from: &[f64], out: &mut [f64])
-    requires { ⌜ length (now from) ≤ length (now out) ⌝ }
-    ensures { λ _. ⌜ now (out .exit) ≡ now (from .entry) ++ drop (length (now (from .entry))) (now (out .entry)) ⌝ }
-{
-    for p in 0..from.len() {
-        out[p] = from[p];
-    }
-}
-
 // The sum of a set whose samples are prepared. The residuals are kept apart until all are there, since refusal 23 writes none.
 fn sum_of(
     second: bool,
@@ -226,7 +215,7 @@ fn sum_of(
     let answer = residuals::penalised_sum(second, counts, times, freqs, turns, g, params, &mut r);
     match answer {
         Sum::Value(sum) => {
-            put(&r[..rows], out);
+            trials::put(&r[..rows], out);
             Residuals { refusal: 0, sum }
         }
         Sum::Refused(refusal) => Residuals { refusal, sum: 0.0 },

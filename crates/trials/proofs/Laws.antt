@@ -5,8 +5,9 @@ use mathlib.Core.List.{List, [], _∷_, _++_, append-assoc}
 use mathlib.Core.Option.{Option, none, some}
 use Prim.Native.Nat.{ℕ, zero, suc, _+_, _*_, _<_, _≤_}
 use native.Mathlib.Numerals.{add-one}
-use lib.ListN.{length, take, drop, set, length-append}
-use lib.Seq.{drop-cons, set-at, length-take-le}
+use native.Mathlib.Omega.{arith}
+use lib.ListN.{length, getD, take, drop, set, length-append}
+use lib.Seq.{take-suc, take-length, drop-cons, set-at, length-take-le}
 use lib.Ieee.{Float, nan, lt}
 use Rattle.refusal.specs.Numbers as refusal
 use Rattle.float.specs.Ops.{_⊗_, _⊘_, bits}
@@ -140,23 +141,43 @@ rows-length rows r h = length-take-le rows r h
 pub table-room : (rows m p room : ℕ) (r : List Float) → rows ≤ length r → rows ≡ m → m * p ≤ room → length (take rows r) * p ≤ room
 table-room rows m p room r h e l = rw (rows-length rows r h, e) l
 
+-- ---- a copy
+
+-- one more number behind those written
+pub more : (done : List Float) (v : Float) (old out : List Float) (n : ℕ) → length done ≡ n → n < length old → out ≡ done ++ drop n old
+    → set out n v ≡ (done ++ (v ∷ [])) ++ drop (n + 1) old
+more done v old out n size h e =
+    ap (λ (l : List Float). set l n v) (e ∙ ap (done ++_) (drop-cons old n nan h))
+    ∙ set-at done _ (drop (suc n) old) v n size
+    ∙ sym (append-assoc done (v ∷ []) (drop (suc n) old))
+    ∙ ap (λ (k : ℕ). (done ++ (v ∷ [])) ++ drop k old) (sym (add-one n))
+
+pub put-more : (from old out : List Float) (p : ℕ) → p < length from → p < length old → out ≡ take p from ++ drop p old
+    → set out p (getD from p nan) ≡ take (p + 1) from ++ drop (p + 1) old
+put-more from old out p h k e =
+    more (take p from) _ old out p (length-take-le p from (omega arith)) k e
+    ∙ ap (λ (l : List Float). l ++ drop (p + 1) old) (sym (ap (λ (n : ℕ). take n from) (add-one p) ∙ take-suc from p nan h))
+
+pub put-all : (from old out : List Float) (p : ℕ) → p ≤ length from → length from ≤ p → out ≡ take p from ++ drop p old → out ≡ from ++ drop (length from) old
+put-all from old out p h k e =
+    let same : p ≡ length from = omega arith in
+    rw (same, take-length) at e
+
 -- ---- the log's slice
 
 abbrev pub logged : Book → List Float → List Float
 logged b old = b .log ++ drop (length (b .log)) old
 
+pub longer : (b c : Book) (v : Float) (n : ℕ) → length (b .log) ≡ n → c .log ≡ b .log ++ (v ∷ []) → length (c .log) ≡ n + 1
+longer b c v n size e = ap length e ∙ length-append (b .log) (v ∷ []) ∙ ap (_+ 1) size
+
 -- one more sum is written at the place after the book's
 pub logged-next : (b c : Book) (v : Float) (n : ℕ) (old log : List Float) → length (b .log) ≡ n → n < length old → c .log ≡ b .log ++ (v ∷ []) → log ≡ logged b old
     → set log n v ≡ logged c old
 logged-next b c v n old log size h e is =
-    ap (λ (l : List Float). set l n v) (is ∙ ap (λ (k : ℕ). b .log ++ drop k old) size ∙ ap (b .log ++_) (drop-cons old n nan h))
-    ∙ set-at (b .log) _ (drop (suc n) old) v n size
-    ∙ sym (append-assoc (b .log) (v ∷ []) (drop (suc n) old))
-    ∙ ap (λ (k : ℕ). (b .log ++ (v ∷ [])) ++ drop k old) (sym (ap length e ∙ length-append (b .log) (v ∷ []) ∙ ap (_+ 1) size ∙ add-one n))
+    more (b .log) v old log n size h (is ∙ ap (λ (k : ℕ). b .log ++ drop k old) size)
+    ∙ ap (λ (k : ℕ). (b .log ++ (v ∷ [])) ++ drop k old) (sym (longer b c v n size e))
     ∙ ap (λ (l : List Float). l ++ drop (length (c .log)) old) (sym e)
-
-pub longer : (b c : Book) (v : Float) (n : ℕ) → length (b .log) ≡ n → c .log ≡ b .log ++ (v ∷ []) → length (c .log) ≡ n + 1
-longer b c v n size e = ap length e ∙ length-append (b .log) (v ∷ []) ∙ ap (_+ 1) size
 
 -- ---- with the code's literals
 

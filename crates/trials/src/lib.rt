@@ -2,8 +2,9 @@
 // record by value: `trial` compares the next set's sum with the best, `follow` does what follows. The functions ask what the fit
 // has checked, and it meets that by proof.
 ghost use mathlib.Core.Path.{_≡_};
+ghost use mathlib.Core.List.{_++_};
 ghost use Prim.Native.Nat.{_+_, _*_, _≤_};
-ghost use lib.ListN.{length, take};
+ghost use lib.ListN.{length, take, drop};
 ghost use Rattle.residuals.specs.Samples.{passesOf, Samples};
 ghost use Rattle.residuals.specs.Residuals.{rowsOf, residuals, penalisedSum};
 ghost use Rattle.residuals.specs.Answers.{Filled};
@@ -323,4 +324,14 @@ pub fn refine_trials(
         }
     }
     Trials { count: n, state: s }
+}
+
+// Writes the numbers to the first places of out: a log or residuals that were kept apart until no refusal could come.
+pub fn put(from: &[f64], out: &mut [f64])
+    requires { ⌜ length (now from) ≤ length (now out) ⌝ }
+    ensures { λ _. ⌜ now (out .exit) ≡ now (from .entry) ++ drop (length (now (from .entry))) (now (out .entry)) ⌝ }
+{
+    for p in 0..from.len() {
+        out[p] = from[p];
+    }
 }

@@ -4,10 +4,9 @@ use mathlib.Core.List.{_++_}
 use Prim.Native.Nat.{_-_, _≤_}
 use lib.ListN.{length, take, drop}
 use borrow.Author.Needs.{needs}
-use Rattle.loops.proofs.Laws.{loops}
-use Rattle.probes.proofs.Calls.{put-more, put-all}
-use Rattle.probes.proofs.put.Statement.{statement}
-use Rattle.probes.proofs.put.Tie as tie
+use Rattle.trials.proofs.Laws.{put-more, put-all}
+use Rattle.trials.proofs.put.Statement.{statement}
+use Rattle.trials.proofs.put.Tie as tie
 
 abbrev Inv-loop : tie.InvT-loop
 Inv-loop from out₀ p₀ p-end out p = (p ≤ length from) × (length out ≡ length out₀) × (out ≡ take p from ++ drop p out₀)
@@ -31,12 +30,12 @@ put-spec =
     Inv-loop
     μ-loop
     loop-holds
-    (λ c. search loops)
-    (λ c. search loops)
-    (λ c. search loops)
-    (λ c. search loops)
-    (λ c. search loops)
-    (λ c. search loops)
+    (λ c. search needs)
+    (λ c. search needs)
+    (λ c. search needs)
+    (λ c. search needs)
+    (λ c. search needs)
+    (λ c. search needs)
     loop-again
-    (λ c. search loops)
+    (λ c. search needs)
     returns)
