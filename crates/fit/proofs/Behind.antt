@@ -22,6 +22,7 @@ use Rattle.normal.specs.Normal.{jtjOf, jtrOf}
 use Rattle.normal.specs.Step.{Outcome, next, refused, damped, scales, scaled, divided, subtractAt, subtracted, held, unscaled, finish, solveStep, dampedStep}
 use Rattle.refine.specs.Jacobian.{epsOf, residualAt, entryOf, anyFar}
 use Rattle.refine.specs.Advance.{advanceOf}
+use Rattle.refine.proofs.Advances.{places-four}
 use Rattle.book.proofs.Sets.{Sets, book-sets}
 use Rattle.start.specs.Start.{withElements, putDt, startingSet}
 use Rattle.fit.specs.Fit.{Observations, observedPasses, refined}
@@ -55,11 +56,6 @@ finish-behind second n f x (some s) y size h e =
     let same : held (subtracted n delta x) ≡ y = cc in
     rw (← same) (held-behind n (subtracted n delta x) h ∙ subtracted-behind n delta x)
 
-parameters : (second : Bool) (p : ℕ) → 4 ≤ placeOf second p
-unfolding placeOf
-parameters true p = omega arith
-parameters false p = omega arith
-
 solve-behind : (second : Bool) (n : ℕ) (a v x y : List Float) (size : Float) → 4 ≤ n → solveStep second n a v x ≡ next y size → drop n y ≡ drop n x
 unfolding solveStep
 solve-behind second n a v x y size h e =
@@ -85,7 +81,7 @@ module _ (second : Bool) (g : Station) (d : Passes) (lambda : Float) (x y : List
       let eps = epsOf second in
       let res = residuals second g d in
       let m = rowsOf second (length (d .times)) (length (d .counts)) in
-      damped-behind second m n (entryOf eps res x) (residualAt res x) lambda x y size (parameters second (length (d .counts)))
+      damped-behind second m n (entryOf eps res x) (residualAt res x) lambda x y size (places-four second (length (d .counts)))
       (not-far (anyFar eps res x n 0) refusal.far-moment (dampedStep second m n (entryOf eps res x) (residualAt res x) lambda x) y size e)
 
 -- ---- the starting set
@@ -110,7 +106,7 @@ start-behind counts times freqs g e second =
     record {
       zeros = for-ind (putDt counts times freqs g e second) (λ i y. drop (placeOf second (length counts)) y ≡ drop (placeOf second (length counts)) (withElements e)) 0 (length counts)
           (withElements e) (omega arith) refl (λ j y l h p. drop-set y (placeOf second j) (placeOf second (length counts)) _ (place-grows second j (length counts) h) ∙ p)
-          ∙ elements-behind e (placeOf second (length counts)) (parameters second (length counts)) .zeros;
+          ∙ elements-behind e (placeOf second (length counts)) (places-four second (length counts)) .zeros;
     }
 
 -- ---- every set of a refinement's book

@@ -1,18 +1,19 @@
 -- Parts of lists, and writing the outputs. Assumes nothing.
 use mathlib.Core.Path.{_≡_, refl, sym, ap, _∙_}
 use mathlib.Core.Bool.{Bool, true, false, _||_}
-use mathlib.Core.List.{List, [], _∷_, _++_, append-assoc}
+use mathlib.Core.List.{List, [], _∷_, _++_}
 use Prim.Native.Nat.{ℕ, zero, suc, _+_, _*_, _≤_, _<_}
 use native.Mathlib.Numerals.{add-one}
 use native.Mathlib.Omega.{arith}
-use lib.ListN.{length, getD, take, drop, set, length-append}
-use lib.Seq.{take-suc, drop-cons, set-at, take-length, length-take-le}
+use lib.ListN.{length, take, drop, set, length-append}
+use lib.Seq.{length-take-le}
 use lib.IntN.{ℤ}
-use lib.Ieee.{Float, nan, lt}
+use lib.Ieee.{Float, lt}
 use Rattle.float.specs.Ops.{absOf}
 use Rattle.residuals.specs.Residuals.{at}
 use Rattle.solution.specs.declared.SolvedOrbit.{SolvedOrbit}
 use Rattle.trials.specs.declared.Trials.{Trials}
+use Rattle.trials.proofs.Laws.{more}
 use Rattle.fit.specs.Answer.{largestOffset, biases, anyLarge, orbitOf, Outputs, outputs, over}
 use Rattle.fit.specs.Work.{Puts}
 
@@ -20,28 +21,6 @@ use Rattle.fit.specs.Work.{Puts}
 
 pub prefix : (n : ℕ) (l : List ℕ) → n ≤ length l → n ≡ length (take n l)
 prefix n l h = sym (length-take-le n l h)
-
--- one more number behind those written
-more : (done : List Float) (v : Float) (old out : List Float) (n : ℕ) → length done ≡ n → n < length old → out ≡ done ++ drop n old
-    → set out n v ≡ (done ++ (v ∷ [])) ++ drop (n + 1) old
-more done v old out n size h e =
-    ap (λ (l : List Float). set l n v) (e ∙ ap (done ++_) (drop-cons old n nan h))
-    ∙ set-at done _ (drop (suc n) old) v n size
-    ∙ sym (append-assoc done (v ∷ []) (drop (suc n) old))
-    ∙ ap (λ (k : ℕ). (done ++ (v ∷ [])) ++ drop k old) (sym (add-one n))
-
--- ---- a list
-
-pub put-more : (from old out : List Float) (p : ℕ) → p < length from → p < length old → out ≡ take p from ++ drop p old
-    → set out p (getD from p nan) ≡ take (p + 1) from ++ drop (p + 1) old
-put-more from old out p h k e =
-    more (take p from) _ old out p (length-take-le p from (omega arith)) k e
-    ∙ ap (λ (l : List Float). l ++ drop (p + 1) old) (sym (ap (λ (n : ℕ). take n from) (add-one p) ∙ take-suc from p nan h))
-
-pub put-all : (from old out : List Float) (p : ℕ) → p ≤ length from → length from ≤ p → out ≡ take p from ++ drop p old → out ≡ from ++ drop (length from) old
-put-all from old out p h k e =
-    let same : p ≡ length from = omega arith in
-    rw (same, take-length) at e
 
 -- ---- biases
 

@@ -289,16 +289,6 @@ fn put_biases(k: usize, x: [f64; PARAMS], passes: usize, out: &mut [f64])
     }
 }
 
-// Writes the numbers to the first places of out.
-fn put(from: &[f64], out: &mut [f64])
-    requires { ⌜ length (now from) ≤ length (now out) ⌝ }
-    ensures { λ _. ⌜ now (out .exit) ≡ now (from .entry) ++ drop (length (now (from .entry))) (now (out .entry)) ⌝ }
-{
-    for p in 0..from.len() {
-        out[p] = from[p];
-    }
-}
-
 // The answer of the second refinement's trials, whose logged sums are `sums`.
 fn put_answer(
     t: Trials,
@@ -323,7 +313,7 @@ fn put_answer(
     put_biases(1, x, passes, dfs);
     put_biases(2, x, passes, df1s);
     put_biases(3, x, passes, df2s);
-    put(&sums[..n], log);
+    trials::put(&sums[..n], log);
     let orbit = orbit_of(x, times);
     Fit {
         refusal: 0,

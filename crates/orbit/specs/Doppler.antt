@@ -17,7 +17,6 @@ use Rattle.frame.specs.declared.State.{State}
 use Rattle.frame.specs.declared.Vec3.{Vec3}
 use Rattle.orbit.specs.Orbit.{mu, ratesOf, propagatedOf, ecefAt, hoisted, turnOf}
 use Rattle.orbit.specs.declared.Elements.{Elements}
-use Rattle.orbit.specs.declared.Rates.{Rates}
 use Rattle.orbit.specs.declared.doppler.DfPoly.{DfPoly}
 use Rattle.orbit.specs.declared.doppler.Station.{Station}
 use Rattle.orbit.specs.declared.doppler.Sight.{Sight}
