@@ -3,13 +3,13 @@ use mathlib.Core.Path.{_≡_, refl, sym, ap, _∙_, subst}
 use Prim.Native.Nat.{ℕ, zero, suc, _+_, _-_, _*_, _%_, _^_, _≤_, _<_}
 use native.Mathlib.Nat.{le-trans, le-of-eq, mul-le-mul-left, mul-le-mul-right, mul-assoc, mul-one, pow-succ'}
 use native.Mathlib.Omega.{arith}
-use mathlib.Core.Bool.{Bool, true, false, not, cond, _&&_, _||_, false≢true, Bool·beq}
+use mathlib.Core.Bool.{Bool, true, not, cond, false≢true}
 use mathlib.Core.List.{List}
-use lib.Dec.{T, ltb, eqb, lt→ltb, eqb-refl}
+use lib.Dec.{T, ltb, lt→ltb}
 use lib.Arith.{le→nltb}
 use lib.ListN.{length, take, drop, getD, drop-of-length-le}
 use lib.Seq.{drop-cons}
-use lib.Ieee.{Float, nan, inf, fin, binary64, up, down, isNan, nanBits, ofBits, toBits, ne}
+use lib.Ieee.{Float, nan, inf, fin, binary64, isNan, nanBits, ofBits}
 use lib.Ieee.Bits.{is-true, is-false, nanBits-above, nanBits-is}
 use Rattle.answer_lines.specs.Word.{hexDigit, hexValue, hexWordAt}
 
@@ -99,21 +99,3 @@ nan-bits b h = not-number (ofBits binary64 b) (sym (nanBits-is binary64 b) ∙ n
 
 pub number-bits : (b : ℕ) → b % 0x8000000000000000 ≤ 0x7ff0000000000000 → T (not (nanBits binary64 b))
 number-bits b h = subst (λ (t : Bool). T (not t)) (sym (nanBits-above binary64 b)) (le→nltb 0x7ff0000000000000 (b % 0x8000000000000000) h)
-
--- x != x
-pub unlike-itself : (x : Float) → ne x x ≡ true → 0x7ff8000000000000 ≡ toBits binary64 x
-unfolding ne toBits
-unlike-itself nan h = refl
-unlike-itself (inf false) h = absurd (false≢true h)
-unlike-itself (inf true) h = absurd (false≢true h)
-unlike-itself (fin s m e) h = absurd (false≢true (sym (ap not (self s (m * up e * down e))) ∙ h))
-  where
-    self : (s : Bool) (a : ℕ) → (eqb a a && (Bool·beq s s || eqb a 0)) ≡ true
-    self false a = ap (λ (b : Bool). b && true) (is-true (eqb a a) (eqb-refl a))
-    self true a = ap (λ (b : Bool). b && true) (is-true (eqb a a) (eqb-refl a))
-
-pub like-itself : (x : Float) → ne x x ≡ false → T (not (isNan x))
-unfolding ne isNan
-like-itself nan h = absurd (false≢true (sym h))
-like-itself (inf s) h = tt
-like-itself (fin s m e) h = tt

@@ -9,12 +9,9 @@ use lib.Dec.{T, leb, ltb, ltb→lt, nltb→le}
 use lib.ListN.{length, set, length-append}
 use lib.Seq.{sets, set-out, length-sets}
 use borrow.Author.Tests.{le-leb, lt-leb}
+use Rattle.laws.proofs.Lists.{sets-append}
 use Rattle.decimal.specs.Fixed.{digitAt}
 use Rattle.append.specs.Append.{Appends, leadingOf, digitsFrom, numeral}
-
-pub sets-append : (a b o : List ℕ) (i : ℕ) → sets o i (a ++ b) ≡ sets (sets o i a) (i + length a) b
-sets-append [] b o i = let e : i + 0 ≡ i = omega arith in rw e
-sets-append (x ∷ a) b o i = let e : i + suc (length a) ≡ suc i + length a = omega arith in rw e (sets-append a b (set o i x) (suc i))
 
 -- past the end nothing is stored
 pub sets-out : (vs o : List ℕ) (i : ℕ) → length o ≤ i → sets o i vs ≡ o

@@ -8,6 +8,7 @@ use native.Mathlib.Omega.{arith}
 use lib.Dec.{ltb, eqb}
 use lib.Ieee.{Float, nan, inf, fin, up, down, lt, eq, le, below, level, isNan}
 use borrow.Author.Tests.{ltb-false, lt-ltb, le-ltb, eq-eqb}
+use Rattle.laws.proofs.Tests.{true-behind}
 use Rattle.float.proofs.Order.{clash, trans}
 
 pub irrefl : (x : Float) → lt x x ≡ false
@@ -26,12 +27,8 @@ not-below s v b h g = go (lt s v) refl
     go false e = e
     go true e = clash (sym h ∙ trans s v b e g)
 
-any-true : (t : Bool) → (t || true) ≡ true
-any-true true = refl
-any-true false = refl
-
 at-most-same : (a b : ℕ) → a ≤ b → (ltb a b || (eqb a b && true)) ≡ true
-at-most-same a b l = ⊎-elim (λ e. rw (eq-eqb a b e) (any-true (ltb a b))) (λ i. rw (lt-ltb a b i)) (eq-or-lt-of-le l)
+at-most-same a b l = ⊎-elim (λ e. rw (eq-eqb a b e) (true-behind (ltb a b))) (λ i. rw (lt-ltb a b i)) (eq-or-lt-of-le l)
 
 at-most-zero : (a b : ℕ) → a + b ≤ 0 → level false a true b ≡ true
 at-most-zero a b l =
@@ -41,7 +38,7 @@ at-most-zero a b l =
 
 at-most-fin : (s t : Bool) (a b : ℕ) → below t b s a ≡ false → (below s a t b || level s a t b) ≡ true
 at-most-fin false false a b h = at-most-same a b (ltb-false b a h)
-at-most-fin true true a b h = ⊎-elim (λ e. rw (eq-eqb a b (sym e)) (any-true (ltb b a))) (λ i. rw (lt-ltb b a i)) (eq-or-lt-of-le (ltb-false a b h))
+at-most-fin true true a b h = ⊎-elim (λ e. rw (eq-eqb a b (sym e)) (true-behind (ltb b a))) (λ i. rw (lt-ltb b a i)) (eq-or-lt-of-le (ltb-false a b h))
 at-most-fin true false a b h =
     ⊎-elim (λ z. let za : a ≡ 0 = omega arith in let zb : b ≡ 0 = omega arith in rw (za, zb)) (λ p. rw (lt-ltb 0 (a + b) p)) (eq-zero-or-pos (a + b))
 at-most-fin false true a b h = at-most-zero a b (let l = ltb-false 0 (b + a) h in omega arith)

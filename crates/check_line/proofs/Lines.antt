@@ -7,7 +7,8 @@ use native.Mathlib.Nat.{min-eq-left, min-le-left, min-le-right, zero-add}
 use native.Mathlib.Omega.{arith}
 use lib.Dec.{eqb, ltb}
 use lib.ListN.{length, take, drop, length-append, length-take, length-drop}
-use lib.Seq.{take-all, length-take-le, length-sets}
+use lib.Seq.{take-all, length-sets}
+use Rattle.laws.proofs.Lists.{prefix}
 use Rattle.text.specs.Text.{bytes}
 use Rattle.append.specs.Append.{Appends}
 use Rattle.append.proofs.Appending.{called, numeral-length}
@@ -19,13 +20,10 @@ pub seen : (file : List ℕ) (r : PassFile) {p o q : List ℕ} {i n : ℕ} → r
     → Appends (nameShown file r) i o q n
 seen file r e f = called (f ∙ sym (ap (λ (t : Bool). cond t (File.nameOf file r) (bytes "UNKNOWN")) e))
 
-pub whole : (m : ℕ) (l : List ℕ) → m ≤ length l → m ≡ length (take m l)
-whole m l h = sym (length-take-le m l h)
-
 pub inside : (t o p : List ℕ) (i n : ℕ) → Appends t i o p n → (n ≤ length p) × (n ≡ length (take n p))
 inside t o p i n a =
     let h : n ≤ length p = rw (a .is, length-sets, a .behind) (min-le-right (i + length t) (length o)) in
-    (h, whole n p h)
+    (h, prefix n p h)
 
 either : (n : ℕ) (t : Bool) (a b : List ℕ) → length a ≤ n → length b ≤ n → length (cond t a b) ≤ n
 either n true a b p q = p

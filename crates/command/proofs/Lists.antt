@@ -8,6 +8,7 @@ use lib.ListN.{length, getD, take, drop, set, length-append, length-drop}
 use lib.Seq.{take-suc, drop-cons, set-at, take-length, length-take-le, take-append-seam}
 use mathlib.Core.Bool.{Bool, true, false, _&&_, _||_}
 use lib.Dec.{leb}
+use Rattle.laws.proofs.Tests.{and-left, true-behind}
 use Rattle.passes.specs.File.{nameOf}
 use Rattle.passes.specs.declared.file.PassFile.{PassFile}
 use Rattle.command.specs.Gather.{First, isNew, Keeps}
@@ -44,23 +45,15 @@ or-false : (b : Bool) → b ≡ (b || false)
 or-false true = refl
 or-false false = refl
 
-or-true : (b : Bool) → (b || true) ≡ true
-or-true true = refl
-or-true false = refl
-
-and-first : (a b : Bool) → (a && b) ≡ true → a ≡ true
-and-first true b e = refl
-and-first false b e = e
-
 pub no-new-name : (name : Name) (file : List ℕ) (r : PassFile) (key : ℕ) (out : List ℕ) → r .«name_seen» ≡ false → Keeps name file r key out out name
 unfolding isNew
 no-new-name name file r key out g = record { seen = simp g (or-false (name .seen)); since = simp g; is = simp g; room = λ h. h }
 
 pub kept-name : (name : Name) (file : List ℕ) (r : PassFile) (key : ℕ) (out : List ℕ) → r .«name_seen» ≡ true → (name .seen && leb (name .key) key) ≡ true → Keeps name file r key out out name
 unfolding isNew
-kept-name name file r key out g e = record { seen = simp (g, and-first (name .seen) (leb (name .key) key) e); since = simp (g, e); is = simp (g, e); room = λ h. h }
+kept-name name file r key out g e = record { seen = simp (g, and-left (name .seen) (leb (name .key) key) e); since = simp (g, e); is = simp (g, e); room = λ h. h }
 
 pub new-name : (name : Name) (file : List ℕ) (r : PassFile) (key : ℕ) (out out′ : List ℕ) {from : List ℕ} {n : ℕ} → r .«name_seen» ≡ true → (name .seen && leb (name .key) key) ≡ false → from ≡ nameOf file r
     → First n out′ (take (length out) from) → Keeps name file r key out out′ (record { seen = true; size = n; key = key })
 unfolding isNew
-new-name name file r key out out′ g e f h = record { seen = simp g (sym (or-true (name .seen))); since = simp (g, e); is = h .is ∙ simp (g, e, f); room = λ _. h .room }
+new-name name file r key out out′ g e f h = record { seen = simp g (sym (true-behind (name .seen))); since = simp (g, e); is = h .is ∙ simp (g, e, f); room = λ _. h .room }

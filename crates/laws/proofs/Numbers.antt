@@ -1,4 +1,4 @@
--- Whole numbers: what a comparison says, and powers of two. Assumes nothing.
+-- Whole numbers: what a comparison says, powers of two, sums. Assumes nothing.
 use mathlib.Core.Path.{_≡_, subst}
 use mathlib.Core.Bool.{Bool, true, false, not}
 use mathlib.Core.Logic.{_⊎_, inl, inr}
@@ -8,6 +8,8 @@ use native.Mathlib.Omega.{arith}
 use lib.Dec.{T, isLe, isEq, ltb, eqb, ltb→lt, nltb→le, leb→le, nleb→lt, eqb→eq, eqb-refl}
 use lib.Arith.{lt-of-le-ne}
 use lib.Pow.{pow-mono}
+use mir.Syntax.{w32}
+use mir.Val.{Fits}
 
 pub lt-or-ge : (a b : ℕ) → (a < b) ⊎ (b ≤ a)
 lt-or-ge a b = go (ltb a b) (ltb→lt a b) (nltb→le a b)
@@ -36,3 +38,7 @@ sub-step a b h = omega arith
 
 pub pow-lt-back : (a b : ℕ) → 2 ^ a < 2 ^ b → a < b
 pow-lt-back a b h = lt-of-not-le (λ (g : b ≤ a). not-le-of-lt h (pow-mono g))
+
+-- a number of 32 bits added
+pub wider : (a n : ℕ) → Fits w32 n → a + n ≤ a + 4294967295
+wider a n h = omega (arith, h .fits)

@@ -24,12 +24,6 @@ use Rattle.moment.specs.Time.{nanosOf, secondsOf, Sound}
 use Rattle.moment.specs.Range.{inRange, taken, countOf, Within}
 use Rattle.moment.specs.Sample.{timeInRange, timesInRange, Timed, shifted, sampleCount, instantAt, momentAt, sinceOf}
 
-pub and-false : (a b : Bool) → a ≡ false → false ≡ (a && b)
-and-false a b e = rw e
-
-pub and-then : (a b : Bool) → a ≡ true → b ≡ (a && b)
-and-then a b e = rw e
-
 -- ---- a shift of a signed number
 
 -- z + k of a z above −k
@@ -68,6 +62,9 @@ ranged (negsuc n) e =
 
 -- ---- moments
 
+pub both : {a b c d : ℕ} → a ≡ b → c ≡ d → _≡_ {A = Instant} (record { secs = a; nanos = c }) (record { secs = b; nanos = d })
+both p q = cc
+
 -- the code's seconds and nanoseconds
 instant-is : (t : ℤ) → timeInRange t ≡ true
     → _≡_ {A = Instant} (record { secs = shifted count1970 t / 1000000000 + countsStart; nanos = shifted count1970 t % 1000000000 }) (instantAt t)
@@ -79,9 +76,6 @@ instant-is t e = split (shifted count1970 t) (sampleCount t) (ranged t e .count)
         let a : n / 1000000000 + countsStart ≡ m / 1000000000 = omega arith in
         let b : n % 1000000000 ≡ m % 1000000000 = omega arith in
         both a b
-      where
-        both : {a b c d : ℕ} → a ≡ b → c ≡ d → _≡_ {A = Instant} (record { secs = a; nanos = c }) (record { secs = b; nanos = d })
-        both p q = cc
 
 pub instant-within : (t : ℤ) → timeInRange t ≡ true → Within 0 (instantAt t .secs) (instantAt t .nanos)
 unfolding instantAt

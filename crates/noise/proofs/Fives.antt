@@ -3,9 +3,6 @@ use mathlib.Core.Path.{_≡_, sym, ap, _∙_}
 use mathlib.Core.Bool.{Bool, true, false, not}
 use mathlib.Core.List.{List}
 use Prim.Native.Nat.{ℕ, _+_, _-_, _≤_, _<_}
-use native.Mathlib.Omega.{arith}
-use mir.Syntax.{w32}
-use mir.Val.{Fits}
 use lib.IntN.{ℤ, pos}
 use lib.Ieee.{Float, nan}
 use lib.ListN.{length, getD}
@@ -82,9 +79,6 @@ module _ (times : List ℤ) (freqs : List Float) (n : ℕ) (s : Sums) where
       → record { squares = w .squares; windows = w .windows; at = s .at + n } ≡ passOf times freqs n s
   unfolding passOf
   many h e = rw (le-ltb n 5 h, e)
-
-pub wider : (a n : ℕ) → Fits w32 n → a + n ≤ a + 4294967295
-wider a n h = omega (arith, h .fits)
 
 -- ---- all passes
 

@@ -11,7 +11,7 @@ use lib.IntN.{ℤ}
 use lib.Ieee.{Float, eq}
 use lib.ListN.{length, getD, take, drop, drop-of-length-le}
 use lib.Seq.{drop-cons}
-use Rattle.moment.proofs.Samples.{and-then}
+use Rattle.laws.proofs.Tests.{and-then}
 use Rattle.pass_set.specs.PassSet.{startOf, countOf, passOf}
 use Rattle.pass_set.proofs.Laws.{start-fits}
 use Rattle.passes.specs.File.{answer, nameOf}

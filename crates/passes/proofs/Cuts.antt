@@ -9,7 +9,7 @@ use lib.Dec.{eqb}
 use lib.ListN.{length, getD, take, drop}
 use lib.Seq.{take-length, drop-length}
 use borrow.Author.Tests.{eq-eqb, ne-eqb}
-use Rattle.laws.proofs.Tests.{and-right}
+use Rattle.laws.proofs.Tests.{and-right, false-behind}
 use Rattle.passes.specs.Text.{Placed, push, startsLf, lines, until, Cut}
 
 -- the first line's length
@@ -139,16 +139,12 @@ uncut : (l : List ℕ) (at : ℕ) → until 10 l ≡ length l → 0 < length l �
 uncut [] at u h = absurd (omega arith)
 uncut (c ∷ l) at u h = go (eqb c 10) refl l (uncut l (at + 1)) u
   where
-    no-cr : (x : Bool) → (x && false) ≡ false
-    no-cr true = refl
-    no-cr false = refl
-
     go : (a : Bool) → eqb c 10 ≡ a → (m : List ℕ) → (until 10 m ≡ length m → 0 < length m → lines (at + 1) m ≡ placed (at + 1) m ∷ []) → until 10 (c ∷ m) ≡ length (c ∷ m) → lines at (c ∷ m) ≡ placed at (c ∷ m) ∷ []
     go true p m ih e = let z = until-lf c m p in absurd (omega arith)
     go false p m ih e =
         let z = until-no c m p in
         let f : until 10 m ≡ length m = omega arith in
-        lines-no c m at p (ap (λ (b : Bool). eqb c 13 && b) (no-lf m f) ∙ no-cr (eqb c 13)) ∙ alone c at m ih f
+        lines-no c m at p (ap (λ (b : Bool). eqb c 13 && b) (no-lf m f) ∙ false-behind (eqb c 13)) ∙ alone c at m ih f
 
 -- ---- what `line` answers
 module _ (l : List ℕ) (k : ℕ) (e : k ≡ until 10 l) (b : k ≤ length l) (p : 0 < length l) where

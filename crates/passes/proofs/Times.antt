@@ -9,6 +9,7 @@ use mir.Syntax.{w64}
 use mir.Val.{SFits, toZ, ofZ}
 use mir.ValLaws.{toZ-ofZ}
 use borrow.Author.Tests.{ltb-true, ltb-false, leb-true, lt-ltb, le-ltb}
+use Rattle.laws.proofs.Tests.{false-behind}
 use Rattle.moment.specs.Origin.{perSecond, reader1970}
 use Rattle.moment.specs.Sample.{timeInRange}
 use Rattle.moment.proofs.Samples.{sub-both, sub-fits}
@@ -42,13 +43,9 @@ and-no a b e = rw e
 small-or : (n : ℕ) (b : Bool) → (n ≤ 999999999 → b ≡ false) → (b && leb n 999999999) ≡ false
 small-or n b h = go (leb n 999999999) refl
   where
-    no : (b : Bool) → (b && false) ≡ false
-    no true = refl
-    no false = refl
-
     go : (d : Bool) → leb n 999999999 ≡ d → (b && d) ≡ false
     go true e = and-no b true (h (leb-true n 999999999 e))
-    go false e = no b
+    go false e = false-behind b
 
 pub outside-early : (s n : ℕ) → s < 61757078400 → inside s n ≡ false
 unfolding inside

@@ -6,9 +6,8 @@ use native.Mathlib.Omega.{arith}
 use lib.Dec.{T, ltb}
 use lib.IntN.{ℤ, pos, negsuc, natAbs, _-ℤ_}
 use lib.Signed.{leZ, nonNeg}
-use lib.Ieee.{Float, nan, inf, fin, binary64, ofBits, toBits, nanBits, isNan, ne}
+use lib.Ieee.{Float, nan, inf, fin, binary64, ofBits, nanBits, isNan}
 use lib.Ieee.Bits.{nanBits-is, nanBits-above}
-use lib.Ieee.Compare.{differs-from-itself}
 use mir.Syntax.{w64}
 use mir.Val.{SFits, Fits, toZ, ofZ}
 use mir.ValLaws.{toZ-ofZ}
@@ -102,16 +101,6 @@ unfolding isNan
 is-nan nan h = refl
 is-nan (inf s) h = absurd (true≢false (sym h))
 is-nan (fin s m e) h = absurd (true≢false (sym h))
-
-pub nan-bits : (v : Float) → ne v v ≡ true → 0x7ff8_0000_0000_0000 ≡ toBits binary64 v
-unfolding toBits
-nan-bits v h = sym (ap (toBits binary64) (differs-from-itself v (subst T (sym h) tt)))
-
-pub not-nan : (v : Float) → ne v v ≡ false → T (not (isNan v))
-unfolding isNan ne
-not-nan nan h = absurd (true≢false h)
-not-nan (inf s) h = tt
-not-nan (fin s m e) h = tt
 
 pub nan-of : (u : ℕ) → 0x7ff0_0000_0000_0000 < u % 9223372036854775808 → nan ≡ ofBits binary64 u
 nan-of u h = sym (is-nan (ofBits binary64 u) (sym (nanBits-is binary64 u) ∙ nanBits-above binary64 u ∙ lt-ltb 0x7ff0_0000_0000_0000 (u % 9223372036854775808) h))

@@ -1,10 +1,11 @@
 use borrow.Author.Needs.{needs}
-use Rattle.check_line.proofs.Lines.{whole, checks, checks-all}
+use Rattle.laws.proofs.Lists.{prefix}
+use Rattle.check_line.proofs.Lines.{checks, checks-all}
 use Rattle.check_line.proofs.check_line.Statement.{statement}
 use Rattle.check_line.proofs.check_line.Tie as tie
 
 slice-aggregate-line : tie.Need-slice-aggregate-line
-slice-aggregate-line c = whole 32768 (c .before .before .before .args .bytes .now) (search needs)
+slice-aggregate-line c = prefix 32768 (c .before .before .before .args .bytes .now) (search needs)
 
 returns : tie.Need-returns
 returns c = checks _ _ _ _ (search needs) (c .line .ensures)

@@ -1,5 +1,6 @@
 use borrow.Author.Needs.{needs}
-use Rattle.noise.proofs.Fives.{few, many, wider}
+use Rattle.laws.proofs.Numbers.{wider}
+use Rattle.noise.proofs.Fives.{few, many}
 use Rattle.noise.proofs.pass.Statement.{statement}
 use Rattle.noise.proofs.pass.Tie as tie
 

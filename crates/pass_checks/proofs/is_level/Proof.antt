@@ -3,7 +3,7 @@ use mathlib.Core.Path.{ap}
 use mathlib.Core.Bool.{not}
 use mir.Syntax.{w64}
 use mir.ValLaws.{toZ-ofZ}
-use Rattle.moment.proofs.Samples.{and-false, and-then}
+use Rattle.laws.proofs.Tests.{and-false, and-then}
 use Rattle.pass_checks.specs.Checks.{level}
 use Rattle.pass_checks.proofs.is_level.Statement.{statement}
 use Rattle.pass_checks.proofs.is_level.Tie as tie

@@ -4,7 +4,7 @@ use mathlib.Core.Bool.{not}
 use mir.Syntax.{w64}
 use mir.ValLaws.{toZ-ofZ}
 use Rattle.moment.specs.Sample.{timeInRange}
-use Rattle.moment.proofs.Samples.{and-false, and-then}
+use Rattle.laws.proofs.Tests.{and-false, and-then}
 use Rattle.moment.proofs.sample.in_range.Statement.{statement}
 use Rattle.moment.proofs.sample.in_range.Tie as tie
 

@@ -1,5 +1,5 @@
 -- `stored::number::freq_bits` meets its contract. Assumes nothing.
-use Rattle.stored.proofs.Signs.{nan-bits, not-nan}
+use Rattle.laws.proofs.Floats.{nan-bits, not-nan}
 use borrow.Author.Needs.{needs}
 use Rattle.stored.proofs.number.freq_bits.Statement.{statement}
 use Rattle.stored.proofs.number.freq_bits.Tie as tie
