@@ -21,7 +21,7 @@ use Rattle.roots.specs.Cube.{icbrt, cubeRootOf}
 use Rattle.roots.specs.Nearest.{Nearest}
 use Rattle.roots.proofs.Power.{Power, order, two-pos, square-power, cube-power}
 use Rattle.roots.proofs.Whole.{Whole, isqrt-whole, icbrt-whole}
-use Rattle.roots.proofs.Rounds.{sticky, size-gt}
+use Rattle.roots.proofs.Rounds.{sticky, size-least, less}
 use Rattle.roots.proofs.Value.{root-value}
 
 -- ---- what is no NaN
@@ -40,10 +40,7 @@ lt-no-nan x (fin t n d) h = tt
 size-is : (q j : ℕ) → 2 ^ 52 ≤ q → q < 2 ^ 53 → size (q * 2 ^ j) ≡ 53 + j
 size-is q j lo hi = le-antisymm
     (size-le (q * 2 ^ j) (53 + j) (shl-lt 53 j hi))
-    (next (size (q * 2 ^ j)) (size-gt (q * 2 ^ j) (52 + j) (le-trans (le-of-eq (pow-add 2 52 j)) (mul-le-mul-right (2 ^ j) lo))))
-  where
-    next : (z : ℕ) → 52 + j < z → 53 + j ≤ z
-    next z h = omega arith
+    (size-least (q * 2 ^ j) j (le-trans (le-of-eq (pow-add 2 52 j)) (mul-le-mul-right (2 ^ j) lo)))
 
 toBits-fin : (m : ℕ) (e : ℤ) (n : ℕ) → m * up e * 2 ^ 1074 / down e ≡ n → toBits binary64 (fin false m e) ≡ 0 + (size n - 53) * 2 ^ 52 + n / 2 ^ (size n - 53)
 unfolding toBits
@@ -58,9 +55,6 @@ toBits-value (fin false m e) q j v lo hi =
     ∙ ap (λ (k : ℕ). 0 + k * 2 ^ 52 + q * 2 ^ j / 2 ^ k) (ap (λ (z : ℕ). z - 53) (size-is q j lo hi) ∙ less j)
     ∙ ap (λ (z : ℕ). 0 + j * 2 ^ 52 + z) (mul-div-cancel q (pow-pos j))
     ∙ ap (λ (z : ℕ). z + q) (zero-add (j * 2 ^ 52))
-  where
-    less : (j : ℕ) → 53 + j - 53 ≡ j
-    less j = omega arith
 
 -- the same with q up to 2 ^ 53, where the sum of the fields carries
 carried : (x : Float) (q j : ℕ) → HasValue x false (q * 2 ^ j) (2 ^ 1074) → 2 ^ 52 ≤ q → q ≤ 2 ^ 53 → toBits binary64 x ≡ j * 2 ^ 52 + q

@@ -16,7 +16,7 @@ use lib.Ieee.Positive.{first-pos}
 use Rattle.roots.specs.Root.{rootOf, sqrtOf}
 use Rattle.roots.specs.Cube.{cubeRootOf, cbrtOf}
 use Rattle.roots.specs.Parts.{patternUnits, IsParts}
-use Rattle.roots.proofs.Units.{low-units, high-units}
+use Rattle.roots.proofs.Units.{small, low-units, high-units}
 
 abbrev pub 0f : Float
 0f = fin false 0 (pos 0)
@@ -180,9 +180,6 @@ low-value x F h l =
     let i : x ≡ odd 53 false b 0 1074 =
     sym (read x F h) ∙ plus-fields b (lt-of-lt-of-le l (lit≤ tt)) ∙ ap (λ (k : ℕ). ofFields binary64 false k (b % 4503599627370496)) (small b l) ∙ low-fields (b % 4503599627370496) ∙ ap (λ (t : ℕ). odd 53 false t 0 1074) (mod-eq-of-lt l) in
     subst (λ (y : Float). HasValue y false b (2 ^ 1074)) (sym i) (subst (λ (a : ℕ). HasValue (odd 53 false b 0 1074) false a (2 ^ 1074)) (mul-one b) (odd-sign 53 false b 0 1074))
-  where
-    small : (b : ℕ) → b < 4503599627370496 → b / 4503599627370496 ≡ 0
-    small b h = omega arith
 
 normal-fields : (k t : ℕ) → suc k < 2047 → ofFields binary64 false (suc k) t ≡ odd 53 false (2 ^ 52 + t) k 1074
 unfolding ofFields

@@ -79,8 +79,17 @@ module _ (f : ℕ → ℕ) (order : (a b : ℕ) → f a < f b → a < b) (n k : 
       go false = let z = most in omega arith
 
 -- ---- the digits of w / 4
-pub size-gt : (n j : ℕ) → 2 ^ j ≤ n → j < size n
+size-gt : (n j : ℕ) → 2 ^ j ≤ n → j < size n
 size-gt n j h = lt-of-not-le (λ (g : size n ≤ j). not-le-of-lt (lt-of-lt-of-le (size-lt n) (pow-mono g)) h)
+
+pub size-least : (n j : ℕ) → 2 ^ (52 + j) ≤ n → 53 + j ≤ size n
+size-least n j h = next (size n) j (size-gt n (52 + j) h)
+  where
+    next : (z j : ℕ) → 52 + j < z → 53 + j ≤ z
+    next z j h = omega arith
+
+pub less : (j : ℕ) → 53 + j - 53 ≡ j
+less j = omega arith
 
 -- ---- w halves of 2 ^ -1075, between the midpoints beside p + 1 times 2 ^ j smallest values, and of 53 digits there
 module _ (w p j : ℕ) (w-under : 2 * ((2 * p + 1) * 2 ^ j) < w) (w-over : w < 2 * ((2 * p + 3) * 2 ^ j)) (w-least : 2 ^ 52 * 2 ^ j * 4 ≤ w) (w-most : w < 2 ^ 53 * 2 ^ j * 4) where
@@ -92,16 +101,10 @@ module _ (w p j : ℕ) (w-under : 2 * ((2 * p + 1) * 2 ^ j) < w) (w-over : w < 2
     digits : size (w * L / (4 * L)) ≡ 53 + j
     digits = ap size quarter ∙ le-antisymm
         (size-le (w / 4) (53 + j) (subst (λ (x : ℕ). w / 4 < x) (sym (pow-add 2 53 j)) (div-lt-iff-lt-mul (pow-pos 2) .1 w-most)))
-        (next (size (w / 4)) (size-gt (w / 4) (52 + j) (subst (λ (x : ℕ). x ≤ w / 4) (sym (pow-add 2 52 j)) (le-div-iff-mul-le (pow-pos 2) .1 w-least))))
-      where
-        next : (z : ℕ) → 52 + j < z → 53 + j ≤ z
-        next z h = omega arith
+        (size-least (w / 4) j (subst (λ (x : ℕ). x ≤ w / 4) (sym (pow-add 2 52 j)) (le-div-iff-mul-le (pow-pos 2) .1 w-least)))
 
     dropped : drop 53 (w * L) (4 * L) ≡ j
     dropped = ap (λ (z : ℕ). z - 53) digits ∙ less j
-      where
-        less : (j : ℕ) → 53 + j - 53 ≡ j
-        less j = omega arith
 
     kept-is : closest (w * L) (4 * L * 2 ^ j) ≡ suc p
     kept-is = closest-is (w * L) (4 * L * 2 ^ j) p (mul-pos (mul-pos (pow-pos 2) LP) (pow-pos j))

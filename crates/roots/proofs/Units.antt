@@ -9,12 +9,12 @@ use lib.Pow.{pow-add}
 use Rattle.roots.specs.Parts.{patternUnits, IsParts}
 
 -- ---- by the exponent's field
+pub small : (b : ℕ) → b < 4503599627370496 → b / 4503599627370496 ≡ 0
+small b h = omega arith
+
 pub low-units : (b : ℕ) → b < 4503599627370496 → patternUnits b ≡ b
 unfolding patternUnits
 low-units b h = ap (λ (k : ℕ). cond (eqb k 0) b ((b % 4503599627370496 + 4503599627370496) * 2 ^ (k - 1))) (small b h)
-  where
-    small : (b : ℕ) → b < 4503599627370496 → b / 4503599627370496 ≡ 0
-    small b h = omega arith
 
 pub high-units : (b k : ℕ) → b / 4503599627370496 ≡ suc k → patternUnits b ≡ (b % 4503599627370496 + 4503599627370496) * 2 ^ k
 unfolding patternUnits
