@@ -4,9 +4,22 @@ use mathlib.Core.Bool.{Bool, true, false, cond}
 use Prim.Native.Nat.{ℕ, zero, suc, _+_, _*_, _/_, _%_, _≤_}
 use native.Mathlib.Numerals.{add-one}
 use native.Mathlib.Omega.{arith}
-use lib.Dec.{eqb}
+use lib.Dec.{eqb, lit≤}
 use borrow.Author.Tests.{eqb-true, eqb-false}
 use Rattle.moment.specs.Calendar.{leap, yearLength, monthLength, monthsLength, daysToYear, Month, Months}
+
+pub month-most : (l : Bool) (m : ℕ) → monthLength l m ≤ 31
+unfolding monthLength
+month-most l m = go (eqb m 2) (eqb m 4) (eqb m 6) (eqb m 9) (eqb m 11) l
+  where
+    go : (a b d e f l : Bool) → cond a (cond l 29 28) (cond b 30 (cond d 30 (cond e 30 (cond f 30 31)))) ≤ 31
+    go true b d e f true = lit≤ tt
+    go true b d e f false = lit≤ tt
+    go false true d e f l = lit≤ tt
+    go false false true e f l = lit≤ tt
+    go false false false true f l = lit≤ tt
+    go false false false false true l = lit≤ tt
+    go false false false false false l = lit≤ tt
 
 pub months-more : {l : Bool} {k days d : ℕ} → Months l k days → Month l (k + 1) d → Months l (k + 1) (days + d)
 unfolding monthsLength

@@ -11,6 +11,7 @@ use lib.Pow.{pow-add}
 use Rattle.laws.proofs.Lists.{here}
 use Rattle.rfc3339.specs.Rfc3339.{placeFits, matches, validTime, validDate}
 use Rattle.moment.specs.Calendar.{leap, monthLength}
+use Rattle.moment.proofs.Lengths.{month-most}
 use borrow.Author.Tests.{ltb-false, leb-true, eqb-false}
 
 pub matches-next : (p l : List ℕ) (i : ℕ) → i < length p → i < length l → matches (drop i p) (drop i l) ≡ (placeFits (getD p i 0) (getD l i 0) && matches (drop (i + 1) p) (drop (i + 1) l))
@@ -64,19 +65,6 @@ pub record InYear (m d : ℕ) : Type 0 where
   pub first : 1 ≤ m
   pub begin : 1 ≤ d
   pub day : d ≤ 31
-
-month-most : (l : Bool) (m : ℕ) → monthLength l m ≤ 31
-unfolding monthLength
-month-most l m = go (eqb m 2) l (eqb m 4) (eqb m 6) (eqb m 9) (eqb m 11)
-  where
-    go : (a b p q r s : Bool) → cond a (cond b 29 28) (cond p 30 (cond q 30 (cond r 30 (cond s 30 31)))) ≤ 31
-    go true true p q r s = omega arith
-    go true false p q r s = omega arith
-    go false b true q r s = omega arith
-    go false b false true r s = omega arith
-    go false b false false true s = omega arith
-    go false b false false false true = omega arith
-    go false b false false false false = omega arith
 
 pub in-year : (y m d : ℕ) → validDate y m d ≡ true → InYear m d
 unfolding validDate

@@ -1,29 +1,17 @@
 -- How many days a month and a year have at most. Assumes nothing.
 use mathlib.Core.Path.{_≡_, sym, ap, subst}
-use mathlib.Core.Bool.{Bool, true, false, cond}
+use mathlib.Core.Bool.{Bool, true, false}
 use Prim.Native.Nat.{ℕ, zero, suc, _+_, _-_, _≤_, _<_}
 use native.Mathlib.Nat.{le-refl}
 use native.Mathlib.Omega.{arith}
-use lib.Dec.{eqb, lit≤}
+use lib.Dec.{lit≤}
 use Rattle.moment.specs.Calendar.{leap, monthLength, monthsLength, dateOf, ordinalOf, Dated}
 use Rattle.moment.specs.declared.calendar.Date.{Date}
+use Rattle.moment.proofs.Lengths.{month-most}
 use Rattle.moment.proofs.Numbers.{day}
 
-month-le : (l : Bool) (m : ℕ) → monthLength l m ≤ 31
-unfolding monthLength
-month-le l m = go (eqb m 2) (eqb m 4) (eqb m 6) (eqb m 9) (eqb m 11) l
-  where
-    go : (a b d e f l : Bool) → cond a (cond l 29 28) (cond b 30 (cond d 30 (cond e 30 (cond f 30 31)))) ≤ 31
-    go true b d e f true = lit≤ tt
-    go true b d e f false = lit≤ tt
-    go false true d e f l = lit≤ tt
-    go false false true e f l = lit≤ tt
-    go false false false true f l = lit≤ tt
-    go false false false false true l = lit≤ tt
-    go false false false false false l = lit≤ tt
-
 pub day-le : (d : Date) → Dated d → d .day ≤ 31
-day-le d h = let a = h .last-day in let b = month-le (leap (d .year)) (d .month) in omega arith
+day-le d h = let a = h .last-day in let b = month-most (leap (d .year)) (d .month) in omega arith
 
 -- so many months and some more
 one-more : (l : Bool) (m k : ℕ) → monthsLength l m ≤ monthsLength l k → monthsLength l m ≤ monthsLength l (suc k)
