@@ -12,9 +12,9 @@ use lib.Ieee.{Float}
 use borrow.Author.Tests.{le-leb, le-ltb, ne-eqb}
 use Rattle.laws.proofs.Tests.{and-true}
 use Rattle.frame.specs.declared.Vec3.{Vec3}
-use Rattle.stored.specs.Numbers.{numbersIn}
 use Rattle.stored.specs.Sets.{passesIn, countsIn, samplesIn, timesIn, freqsIn, sizedRight, loadRefusal, loaded, Loads}
 use Rattle.stored.specs.declared.Loaded.{Loaded}
+use Rattle.stored.proofs.Theorems.{length-taken}
 use Rattle.stored.proofs.Whole.{fits}
 use Rattle.fit.specs.Answer.{Arguments, arguments, refusedBy, Outputs, Fits}
 use Rattle.fit.specs.declared.Fit.{Fit}
@@ -73,11 +73,6 @@ uncentred b centers h = go (sizedRight b) refl
         let f = fits b e in
         let n : eqb (passesIn b) (length centers) ≡ false = rw (le-leb 4 (length b) (omega (arith, f .size))) at h in
         rw (e, n)
-
-length-taken : {A : Type 0} (w : ℕ) (f : ℕ → A) (n : ℕ) (l : List ℕ) → length (numbersIn w f n l) ≡ n
-unfolding numbersIn
-length-taken w f zero l = refl
-length-taken w f (suc n) l = ap suc (length-taken w f n (drop w l))
 
 -- what was put into the first places is all that is lent
 front : {A : Type 0} (old vs : List A) (n : ℕ) → length vs ≡ n → n ≤ length old → take n (sets old 0 vs) ≡ vs

@@ -231,7 +231,7 @@ module _ {A : Type 0} (w : ℕ) (f : ℕ → A) (g : A → ℕ) where
       ∙ take-add w (w * k) l
       ∙ ap (λ (n : ℕ). take n l) (sym (s ∙ add-comm (w * k) w))
 
-length-taken : {A : Type 0} (w : ℕ) (f : ℕ → A) (k : ℕ) (l : List ℕ) → length (numbersIn w f k l) ≡ k
+pub length-taken : {A : Type 0} (w : ℕ) (f : ℕ → A) (k : ℕ) (l : List ℕ) → length (numbersIn w f k l) ≡ k
 unfolding numbersIn
 length-taken w f zero l = refl
 length-taken w f (suc k) l = ap suc (length-taken w f k (drop w l))
