@@ -1,6 +1,6 @@
 -- Walking a line, and cutting parts out of it. Assumes nothing.
 use mathlib.Core.Path.{_≡_, refl, sym, ap, _∙_, subst}
-use mathlib.Core.Bool.{Bool, true, false, cond}
+use mathlib.Core.Bool.{Bool, true, false, not, cond}
 use mathlib.Core.List.{List, _∷_}
 use Prim.Native.Nat.{ℕ, suc, _+_, _-_, _*_, _/_, _≤_, _<_}
 use native.Mathlib.Nat.{le-of-eq}
@@ -16,7 +16,7 @@ use mir.ValLaws.{toZ-ofZ, ofZ-toZ}
 use borrow.Author.Tests.{eq-eqb, ne-eqb, eqb-true, eqb-false, lt-ltb, le-ltb}
 use Rattle.laws.proofs.Signed.{difference, small, difference-fits}
 use Rattle.laws.proofs.Lists.{rest}
-use Rattle.answer_lines.specs.Lines.{firstPlace, beginsWith, occurs, askedFields, answerFields, fieldsFrom, afterList, fieldAt, floatField, countField, signedField, every, sameList, FilledBy, ReadsSet}
+use Rattle.answer_lines.specs.Lines.{firstPlace, beginsWith, lineWord, occurs, OnlyWords, askedFields, answerFields, fieldsFrom, afterList, fieldAt, floatField, countField, signedField, every, sameList, FilledBy, ReadsSet}
 
 here : {A : Type 0} (l : List A) (i : ℕ) (d : A) → i < length l → drop i l ≡ getD l i d ∷ drop (i + 1) l
 here l i d h = let e : suc i ≡ i + 1 = omega arith in drop-cons l i d h ∙ ap (λ (k : ℕ). getD l i d ∷ drop k l) e
@@ -207,3 +207,10 @@ set-read x {counts = counts} {centers = centers} {freqs = freqs} {times = times}
       timed = subst (λ l. FilledBy (signedField l) (pos 0) times) (ed ∙ ap (fieldsFrom 1) t′) ft;
       heard = subst (λ l. FilledBy (floatField l) nan freqs) (ee ∙ ap (fieldsFrom 1) (ef ∙ ap afterList t′)) ff;
     }
+
+-- ---- a table of words
+
+-- a line whose word was found in the table, whatever is said of the line then
+pub known : (table line name : List ℕ) (found r : Bool) → name ≡ lineWord line → found ≡ occurs name table → not found ≡ false → OnlyWords table line r
+known table line name true r p e h = record { other = λ k. cc }
+known table line name false r p e h = record { other = λ k. cc }
