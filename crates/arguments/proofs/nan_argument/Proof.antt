@@ -1,25 +1,19 @@
 -- `nan_argument` meets its contract. Assumes nothing.
-use mathlib.Core.Path.{_≡_, sym, _∙_}
-use mathlib.Core.Bool.{Bool}
-use lib.Ieee.{Float, ne, isNan}
 use Rattle.float.proofs.Signs.{nan-test}
 use Rattle.arguments.specs.Refusals.{nanArgument}
 use Rattle.arguments.proofs.nan_argument.Statement.{statement}
 use Rattle.arguments.proofs.nan_argument.Tie as tie
 
-says : (v : Float) {b : Bool} → ne v v ≡ b → isNan v ≡ b
-says v e = sym (nan-test v) ∙ e
-
 returns : tie.Need-returns
 unfolding nanArgument
-returns c = let v = c .before .before .args in simp (says (v .rec .x) (c .if1 .taken))
+returns c = let v = c .before .before .args in simp (← nan-test (v .rec .x), c .if1 .taken)
 
 returns-2 : tie.Need-returns-2
 unfolding nanArgument
 returns-2 c =
     let x = c .before .before in
     let v = x .before .before .args in
-    simp (says (v .rec .x) (x .if1 .left), says (v .rec .y) (c .if2 .taken))
+    simp (← nan-test (v .rec .x), x .if1 .left, ← nan-test (v .rec .y), c .if2 .taken)
 
 returns-3 : tie.Need-returns-3
 unfolding nanArgument
@@ -27,7 +21,7 @@ returns-3 c =
     let y = c .before .before in
     let x = y .before .before in
     let v = x .before .before .args in
-    simp (says (v .rec .x) (x .if1 .left), says (v .rec .y) (y .if2 .left), says (v .rec .z) (c .if3 .taken))
+    simp (← nan-test (v .rec .x), x .if1 .left, ← nan-test (v .rec .y), y .if2 .left, ← nan-test (v .rec .z), c .if3 .taken)
 
 returns-4 : tie.Need-returns-4
 unfolding nanArgument
@@ -36,7 +30,7 @@ returns-4 c =
     let y = z .before .before in
     let x = y .before .before in
     let v = x .before .before .args in
-    simp (says (v .rec .x) (x .if1 .left), says (v .rec .y) (y .if2 .left), says (v .rec .z) (z .if3 .left), says (v .a) (c .if4 .taken))
+    simp (← nan-test (v .rec .x), x .if1 .left, ← nan-test (v .rec .y), y .if2 .left, ← nan-test (v .rec .z), z .if3 .left, ← nan-test (v .a), c .if4 .taken)
 
 returns-5 : tie.Need-returns-5
 unfolding nanArgument
@@ -45,7 +39,7 @@ returns-5 c =
     let y = z .before .before in
     let x = y .before .before in
     let v = x .before .before .args in
-    simp (says (v .rec .x) (x .if1 .left), says (v .rec .y) (y .if2 .left), says (v .rec .z) (z .if3 .left), says (v .a) (c .if4 .left), nan-test (v .i))
+    simp (← nan-test (v .rec .x), x .if1 .left, ← nan-test (v .rec .y), y .if2 .left, ← nan-test (v .rec .z), z .if3 .left, ← nan-test (v .a), c .if4 .left, nan-test (v .i))
 
 pub nan-argument-spec : {M : Type 1} → statement M
 nan-argument-spec = tie.close (tie.spec returns returns-2 returns-3 returns-4 returns-5)
