@@ -82,7 +82,7 @@ fn out_of_range(a: f64, i: f64) -> bool
     i > float::PI
 }
 
-fn any_nan(freqs: &[f64]) -> bool
+pub fn any_nan(freqs: &[f64]) -> bool
     ensures { λ r. ⌜ r ≡ anyNan (now (freqs .entry)) ⌝ }
 {
     for k in 0..freqs.len() {

@@ -10,18 +10,6 @@ ghost use Rattle.arguments.specs.Refusals.{anyNan};
 ghost use Rattle.pass_checks.specs.Checks.{level, same, alike, nanPass, twinOf, otherName, Whole};
 use passes::file;
 
-fn any_nan(freqs: &[f64]) -> bool
-    ensures { λ r. ⌜ r ≡ anyNan (now (freqs .entry)) ⌝ }
-{
-    for k in 0..freqs.len() {
-        let f = freqs[k];
-        if f != f {
-            return true;
-        }
-    }
-    false
-}
-
 // Whether a frequency of pass p is NaN.
 fn nan_in(counts: &[u32], freqs: &[f64], p: usize) -> bool
     requires { ⌜ Whole (now counts) (length (now freqs)) × (p < length (now counts)) ⌝ }
@@ -30,7 +18,7 @@ fn nan_in(counts: &[u32], freqs: &[f64], p: usize) -> bool
     let n = counts[p] as usize;
     let start = ordering::start_of(counts, p);
     let end = start + n;
-    any_nan(&freqs[start..end])
+    arguments::any_nan(&freqs[start..end])
 }
 
 // The first pass with a frequency that is NaN, or how many passes there are.
