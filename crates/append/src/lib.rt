@@ -2,8 +2,6 @@
 // behind what it put.
 ghost use mathlib.Core.List.{[], _∷_};
 ghost use Prim.Native.Nat.{_<_};
-ghost use mathlib.Core.Path.{_≡_};
-ghost use Rattle.decimal.specs.Fixed.{digitAt};
 ghost use Rattle.append.specs.Append.{Appends, leadingOf, numeral};
 
 // Nothing: the place to go on from, which is in the buffer or at its end.
@@ -36,21 +34,13 @@ pub fn text(text: &[u8], out: &mut [u8], at: usize) -> usize
     nothing(out, next)
 }
 
-// The digit of n at 10^i.
-pub fn digit(n: u64, i: usize) -> u8
-    requires { ⌜ i < 20 ⌝ }
-    ensures { λ r. ⌜ r ≡ digitAt n i ⌝ }
-{
-    (n / decimal::fixed::power(i) % 10) as u8 + 48
-}
-
 // The digit at 10^i, where n has one.
 fn leading(n: u64, i: usize, out: &mut [u8], at: usize) -> usize
     requires { ⌜ i < 20 ⌝ }
     ensures { λ r. ⌜ Appends (leadingOf n i) at (now (out .entry)) (now (out .exit)) r ⌝ }
 {
     if decimal::fixed::power(i) <= n {
-        return byte(digit(n, i), out, at);
+        return byte(decimal::fixed::digit(n, i), out, at);
     }
     nothing(out, at)
 }
@@ -65,5 +55,5 @@ pub fn number(n: u64, out: &mut [u8], at: usize) -> usize
         next = leading(n, i, out, next);
         i -= 1;
     }
-    byte(digit(n, 0), out, next)
+    byte(decimal::fixed::digit(n, 0), out, next)
 }

@@ -16,9 +16,9 @@ fn three(n: u64, i: usize, out: &mut [u8], at: usize) -> usize
     requires { ⌜ i ≤ 3 ⌝ }
     ensures { λ r. ⌜ Appends (threeOf n i) at (now (out .entry)) (now (out .exit)) r ⌝ }
 {
-    let a = append::byte(append::digit(n, i + 2), out, at);
-    let b = append::byte(append::digit(n, i + 1), out, a);
-    append::byte(append::digit(n, i), out, b)
+    let a = append::byte(decimal::fixed::digit(n, i + 2), out, at);
+    let b = append::byte(decimal::fixed::digit(n, i + 1), out, a);
+    append::byte(decimal::fixed::digit(n, i), out, b)
 }
 
 fn six(n: u64, out: &mut [u8], at: usize) -> usize
