@@ -130,7 +130,8 @@ fn weights(p: Five) -> Five
     }
 }
 
-fn number_at(l: &[f64], k: usize) -> f64
+// Number k; past the last, NaN.
+pub fn number_at(l: &[f64], k: usize) -> f64
     ensures { λ r. ⌜ r ≡ getD (now (l .entry)) k nan ⌝ }
 {
     if k < l.len() {
