@@ -1,23 +1,15 @@
 -- What an accepted fit's report says.
 use Prim.Native.Nat.{ℕ}
-use mathlib.Core.Path.{_≡_, refl}
 use mathlib.Core.Bool.{cond}
 use mathlib.Core.List.{List, _++_}
-use lib.Ieee.{Float, lt, ofBits, round}
+use lib.Ieee.{Float, lt}
 use Rattle.text.specs.Text.{bytes}
-use Rattle.float.specs.Constant.{decimal}
 use Rattle.float.specs.Ops.{_⊗_, bits, absOf}
 use Rattle.append.specs.Append.{numeral}
 use Rattle.noise.specs.declared.Finding.{Finding}
 use Rattle.noise.specs.declared.Finding.the-variants.{AtNoise, Doubtful, TwoPasses, Untold}
-use Rattle.report_text.specs.Number.{million, realOf}
-
-unfoldable pub thousand : Float
-thousand = decimal 1000 0
-
-pub thousand-bits : bits 0x408f400000000000 ≡ thousand
-unfolding thousand ofBits round
-thousand-bits = refl
+use Rattle.moment.specs.Time.{million, thousand}
+use Rattle.report_text.specs.Number.{realOf}
 
 unfoldable pub countsOf : ℕ → ℕ → ℕ → List ℕ
 countsOf trials samples passes =

@@ -8,15 +8,9 @@ use lib.Ieee.{Float, isNan, lt, ofBits, round, toUnsigned}
 use Rattle.text.specs.Text.{bytes}
 use Rattle.float.specs.Constant.{decimal}
 use Rattle.float.specs.Ops.{_⊗_, bits, absOf, roundOf}
+use Rattle.moment.specs.Time.{million}
 use Rattle.decimal.specs.Fixed.{digitAt}
 use Rattle.append.specs.Append.{numeral}
-
-unfoldable pub million : Float
-million = decimal 1000000 0
-
-pub million-bits : bits 0x412e848000000000 ≡ million
-unfolding million ofBits round
-million-bits = refl
 
 unfoldable pub largestShown : Float
 largestShown = decimal 1000000000000 0

@@ -1,7 +1,7 @@
 use borrow.Author.Needs.{needs}
 use Rattle.append.proofs.Appending.{both}
-use Rattle.report_text.specs.Number.{million-bits}
-use Rattle.report_text.specs.Fitted.{thousand-bits, driftOf}
+use Rattle.moment.specs.Time.{million-bits, thousand-bits}
+use Rattle.report_text.specs.Fitted.{driftOf}
 use Rattle.report_text.proofs.Pieces.{scaled}
 use Rattle.report_text.proofs.fitted.drift.Statement.{statement}
 use Rattle.report_text.proofs.fitted.drift.Tie as tie

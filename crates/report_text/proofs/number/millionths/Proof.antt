@@ -1,5 +1,6 @@
 use borrow.Author.Needs.{needs}
-use Rattle.report_text.specs.Number.{million-bits, millionthsOf}
+use Rattle.moment.specs.Time.{million-bits}
+use Rattle.report_text.specs.Number.{millionthsOf}
 use Rattle.report_text.proofs.number.millionths.Statement.{statement}
 use Rattle.report_text.proofs.number.millionths.Tie as tie
 
