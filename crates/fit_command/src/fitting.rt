@@ -3,7 +3,6 @@ ghost use lib.ListN.{length};
 ghost use Rattle.ordering.specs.Order.{Alike};
 ghost use Rattle.pass_set.specs.PassSet.{Sizes};
 ghost use Rattle.pass_checks.specs.Checks.{Whole};
-use crate::say;
 use command::report;
 use command::report::Biases;
 use determination::Determination;
@@ -21,10 +20,10 @@ fn unprintable(orbit: SolvedOrbit) {
     let mut text = [0u8; 256];
     let c = tle::format_tle_catalog(b"HERD-1", orbit, &mut text);
     if c.refusal == 0 {
-        say::name_unprintable();
+        messages::name_unprintable();
         return;
     }
-    say::orbit_unprintable();
+    messages::orbit_unprintable();
 }
 
 fn lines_refused(k: u32, orbit: SolvedOrbit) {
@@ -32,7 +31,7 @@ fn lines_refused(k: u32, orbit: SolvedOrbit) {
         unprintable(orbit);
         return;
     }
-    say::refusal(k);
+    messages::refusal(k);
 }
 
 // What is off in recorded frequencies is off the other way in mirrored ones.
@@ -72,7 +71,7 @@ fn biases(
 ) {
     for p in 0..order.len() {
         let b = report::biases_of(counts, p, dts, dfs, df1s, df2s);
-        say::pass(word_of(order[p], first), turned(received(first), b));
+        messages::pass(word_of(order[p], first), turned(received(first), b));
     }
 }
 
@@ -82,16 +81,16 @@ fn tell_noise(rms: f64, counts: &[u32], times: &[i64], freqs: &[f64]) {
         return;
     }
     let full = arguments::non_empty(counts);
-    say::noise(rms, noise::estimate(counts, times, freqs), full.passes);
+    messages::noise(rms, noise::estimate(counts, times, freqs), full.passes);
 }
 
 // Why there is no fit; `nan` is the first file with a frequency that is not a number.
 fn fit_refused(k: u32, first: usize, nan: usize) {
     if k == refusal::NAN_FREQUENCY {
-        say::file_refusal(word_of(nan, first), k);
+        messages::file_refusal(word_of(nan, first), k);
         return;
     }
-    say::refusal(k);
+    messages::refusal(k);
 }
 
 // The report of an accepted fit, or why there is none.
@@ -133,7 +132,7 @@ fn report(
         df1s,
         df2s,
     );
-    say::fit(f.trials, f.best, rms, times.len(), counts.len());
+    messages::fit(f.trials, f.best, rms, times.len(), counts.len());
     tell_noise(rms, counts, times, freqs);
     biases(first, order, counts, dts, dfs, df1s, df2s);
 }
@@ -255,7 +254,7 @@ fn tell_twins(first: usize, counts: &[u32], times: &[i64], freqs: &[f64])
     for q in 0..counts.len() {
         let p = pass_checks::twin(counts, times, freqs, q);
         if p < q {
-            say::twice(word_of(q, first), word_of(p, first));
+            messages::twice(word_of(q, first), word_of(p, first));
         }
     }
 }

@@ -1,7 +1,6 @@
 // The command: fits one circular orbit to the passes in the files that its words name, and writes its name line and element lines to
 // standard output. Everything else goes to standard error. `fit_passes` and `fit_passes_refused` are this on two sets of words.
 mod fitting;
-mod say;
 
 ghost use Prim.Native.Nat.{_≤_};
 ghost use Rattle.io.specs.Counts.{Counts};
@@ -36,7 +35,7 @@ fn fit_files(first: usize, n: usize, rec_ecef: Vec3, initial_i: f64)
     let kept = g.name;
     let size = kept.size;
     if size == 0 {
-        say::empty_name();
+        messages::empty_name();
     }
     fitting::check_and_fit(
         first,
@@ -83,11 +82,11 @@ fn numbers(k: usize, n: usize)
     let m = mast(k);
     match m {
         Mast::At(rec_ecef, initial_i) => {
-            say::position(rec_ecef);
+            messages::position(rec_ecef);
             fit_files(k + 4, n, rec_ecef, initial_i);
         }
-        Mast::NoNumber(k) => say::no_number(k),
-        Mast::LongNumber(k) => say::long_number(k),
+        Mast::NoNumber(k) => messages::no_number(k),
+        Mast::LongNumber(k) => messages::long_number(k),
     }
 }
 
@@ -97,8 +96,8 @@ fn words_from(k: usize, count: usize)
 {
     let named = words::files_of(count);
     match named {
-        Files::TooFew => say::usage(),
-        Files::TooMany => say::too_many(),
+        Files::TooFew => messages::usage(),
+        Files::TooMany => messages::too_many(),
         Files::Named(n) => numbers(k, n),
     }
 }
@@ -113,14 +112,14 @@ fn as_received() -> bool {
 pub fn run() {
     let count = os::arg_count();
     if count == 0 {
-        say::usage();
+        messages::usage();
         return;
     }
     if as_received() {
-        say::received();
+        messages::received();
         words_from(2, count - 1);
         return;
     }
-    say::as_predicted();
+    messages::as_predicted();
     words_from(1, count);
 }

@@ -1,8 +1,8 @@
-// What is said of a file on standard error. `flush` serves the command too.
+// What is said of a file on standard error. `write` and `flush` serve the command too.
 use libc::STDERR_FILENO;
 use survey::Tally;
 
-fn write(text: &[u8]) {
+pub fn write(text: &[u8]) {
     io::write_all(STDERR_FILENO, text);
 }
 

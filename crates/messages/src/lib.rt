@@ -3,14 +3,10 @@ ghost use Rattle.io.specs.Counts.{Counts};
 use command::report::Biases;
 use command::words;
 use frame::Vec3;
-use libc::STDERR_FILENO;
 use pass_files::say::flush;
+use pass_files::say::write;
 use report_text::fitted;
 use report_text::refused;
-
-fn write(text: &[u8]) {
-    io::write_all(STDERR_FILENO, text);
-}
 
 pub fn usage() {
     write(b"usage: fit-passes [--as-received] X Y Z INCLINATION FILE..\n");
