@@ -29,6 +29,7 @@ fn agrees(line: &[u8]) -> bool {
     lines::agrees(line)
         || files::agrees(line)
         || replay_numbers::agrees(line)
+        || replay_sums::agrees(line)
         || replay_fits::agrees(line)
 }
 

@@ -9,13 +9,6 @@ pub(crate) fn stored_set() -> [u8; 16384]
     [0; 16384]
 }
 
-// The table of a search.
-pub(crate) fn search() -> [f64; probes::ROTATIONS]
-    ensures { λ r. ⌜ 48032 ≡ length r ⌝ }
-{
-    [0.0; probes::ROTATIONS]
-}
-
 // The residuals of a set, with penalties.
 pub(crate) fn residuals() -> [f64; probes::ROWS]
     ensures { λ r. ⌜ 4144 ≡ length r ⌝ }

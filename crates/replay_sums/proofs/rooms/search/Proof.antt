@@ -1,7 +1,7 @@
 use lib.Ieee.{binary64, ofBits}
 use Rattle.answer_lines.proofs.Sized.{sized}
-use Rattle.replay_fits.proofs.rooms.search.Statement.{statement}
-use Rattle.replay_fits.proofs.rooms.search.Tie as tie
+use Rattle.replay_sums.proofs.rooms.search.Statement.{statement}
+use Rattle.replay_sums.proofs.rooms.search.Tie as tie
 
 returns : tie.Need-returns
 unfolding ofBits
