@@ -47,6 +47,7 @@ use Rattle.fit.specs.Answer.{
   Fits,
 }
 use Rattle.fit.specs.declared.Fit.{Fit}
+use Rattle.fit.proofs.Laws.{length-biases}
 use Rattle.tle.specs.Lines.{catalogOf}
 use Rattle.tle.specs.Answer as tle
 use Rattle.tle.specs.Answer.{Formats}
@@ -54,7 +55,7 @@ use Rattle.tle.specs.declared.Catalog.{Catalog}
 use Rattle.tle.proofs.Answers.{catalog-length}
 use Rattle.tle.proofs.Printed.{format-printed}
 use Rattle.determination.specs.Demand.{sumIn, sumAgain, anyBelow, returnedSet, Accepted, Demand}
-use Rattle.determination.proofs.Sets.{sum-same, returned-agrees, length-biases, over-at}
+use Rattle.determination.proofs.Sets.{sum-same, returned-agrees, over-at}
 
 -- ---- an accepted fit passed every test
 

@@ -8,7 +8,7 @@ use mathlib.Core.Option.{Option}
 use Prim.Native.Nat.{ℕ, zero, suc, _+_, _*_, _≤_, _<_}
 use native.Mathlib.Nat.{eq-or-lt-of-le, le-of-suc-le-suc, not-suc-le-zero}
 use native.Mathlib.Omega.{arith}
-use lib.ListN.{length, drop, length-append, List·getD-append}
+use lib.ListN.{length, drop, List·getD-append}
 use lib.Seq.{getD-at}
 use lib.Ieee.{Float, nan}
 use Rattle.residuals.specs.Samples.{Passes}
@@ -33,6 +33,7 @@ use Rattle.residuals.specs.Residuals.{
 use Rattle.orbit.specs.declared.doppler.Station.{Station}
 use Rattle.solution.specs.declared.SolvedOrbit.{SolvedOrbit}
 use Rattle.fit.specs.Answer.{biases, Outputs, over}
+use Rattle.fit.proofs.Laws.{length-biases}
 use Rattle.determination.specs.Demand.{biasesFrom, returnedSet}
 
 -- ---- residuals of two sets that agree on n passes
@@ -150,11 +151,6 @@ module _ (s : List Float) (n : ℕ) (o : SolvedOrbit) (w : Outputs) (h : Holds s
       record { each = λ k l. ap (λ (z : List Float). at z k) returned-run ∙ run-at s 0 (4 + 4 * n) k l ∙ ap (at s) (omega arith) }
 
 -- ---- what stands in the slices
-
-pub length-biases : (k : ℕ) (s : List Float) (n : ℕ) → length (biases k s n) ≡ n
-unfolding biases
-length-biases k s zero = refl
-length-biases k s (suc n) = simp (length-append, length-biases k s n) (omega arith)
 
 biases-at : (k : ℕ) (s : List Float) (n p : ℕ) → p < n → at (biases k s n) p ≡ at s (4 + 4 * p + k)
 unfolding biases
