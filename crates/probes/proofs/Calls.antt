@@ -22,11 +22,11 @@ use Rattle.pass_set.proofs.Laws as laws
 use Rattle.approach.specs.Turns.{PassSet}
 use Rattle.float.specs.Ops.{bits}
 use Rattle.search.specs.declared.Found.{Found}
+use Rattle.orbit.specs.declared.doppler.Station.{Station}
 use Rattle.residuals.specs.Samples.{Passes, countsAt, passesOf, Dated, Rotations, Samples}
 use Rattle.residuals.specs.Residuals.{placeOf, rowsOf, penalisedSum, each, sumOf}
 use Rattle.residuals.specs.Answers as residuals
 use Rattle.residuals.specs.Residuals as residuals-of
-use Rattle.residuals.specs.declared.Station.{Station}
 use Rattle.residuals.specs.declared.Sum.{Sum}
 use Rattle.residuals.specs.declared.Sum.the-variants.{Value, Refused}
 use Rattle.residuals.proofs.Samples.{counts-length, counts-dated}

@@ -16,11 +16,11 @@ use Rattle.moment.specs.Sample.{timesInRange, Timed, instantAt}
 use Rattle.moment.specs.declared.Instant.{Instant}
 use Rattle.pass_set.specs.PassSet.{sizesAgree}
 use Rattle.frame.specs.declared.Vec3.{Vec3}
+use Rattle.orbit.specs.declared.doppler.Station.{Station}
 use Rattle.search.specs.declared.Fixed.{Fixed}
 use Rattle.search.specs.declared.Found.{Found}
 use Rattle.residuals.specs.Samples.{Passes, countsAt, passesOf, Rotations}
 use Rattle.residuals.specs.Residuals.{placeOf, rowsOf, penalisedSum, sumOf}
-use Rattle.residuals.specs.declared.Station.{Station}
 use Rattle.refine.specs.Advance.{advanceOf}
 use Rattle.book.specs.Book.{Search, After, Book, turn}
 use Rattle.book.specs.declared.Ending.{Ending}
@@ -51,11 +51,14 @@ cleared (suc k) old = old
 abbrev pub epochOf : List ℤ → Instant
 epochOf times = instantAt (getD times 0 (pos 0))
 
+abbrev pub stationOf : List ℤ → Float → Vec3 → Station
+stationOf times center rec = record { epoch = epochOf times; «center_freq» = center; «rec_ecef» = rec }
+
 -- ---- the search
 
 -- the centre is the first pass's; without passes 0, which nothing reads
 abbrev pub fixedOf : List ℤ → List Float → Vec3 → Float → Float → Fixed
-fixedOf times centers rec a i = record { «rec_ecef» = rec; a = a; i = i; epoch = epochOf times; «center_freq» = getD centers 0 (bits 0) }
+fixedOf times centers rec a i = record { station = stationOf times (getD centers 0 (bits 0)) rec; a = a; i = i }
 
 abbrev pub searchAnswer : ℕ → Found → Searched
 searchAnswer zero f = record { refusal = 0; raan0 = f .raan0; u0 = f .u0; rss = f .rss }
@@ -66,9 +69,6 @@ pub record Searches (k : ℕ) (f : Found) (table table′ : List Float) (r : Sea
   pub zeros : table′ ≡ cleared k table
 
 -- ---- residuals
-
-abbrev pub stationOf : List ℤ → Float → Vec3 → Station
-stationOf times center rec = record { epoch = epochOf times; «center_freq» = center; «rec_ecef» = rec }
 
 abbrev pub samplesOf : List ℕ → List ℤ → List Float → Passes
 samplesOf counts times freqs = passesOf counts (countsAt times) freqs

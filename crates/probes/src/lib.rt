@@ -36,10 +36,11 @@ ghost use Rattle.probes.specs.Call.{
 use book::Ending;
 use frame::Vec3;
 use moment::Instant;
+use orbit::doppler::Station;
 use residuals::PARAMS;
-use residuals::Station;
 use residuals::Sum;
 use search::Fixed;
+use trials::Refinement;
 use trials::State;
 
 // The room of any set's table of rotations, of its residuals, and of a table of their derivatives.
@@ -109,6 +110,19 @@ fn epoch_of(times: &[i64]) -> Instant
     approach::pca::moment_at(times, 0)
 }
 
+// What the predictions share.
+fn station(times: &[i64], center_freq: f64, rec_ecef: Vec3) -> Station
+    requires { ⌜ Timed (now times) ⌝ }
+    ensures { λ r. ⌜ (r ≡ stationOf (now (times .entry)) «center_freq» «rec_ecef») × Within 0 (r .epoch .secs) (r .epoch .nanos) ⌝ }
+{
+    let epoch = epoch_of(times);
+    Station {
+        epoch,
+        center_freq,
+        rec_ecef,
+    }
+}
+
 // ---- the search
 
 // The first pass's centre, 0 where there is none.
@@ -123,17 +137,10 @@ fn first_center(centers: &[f64]) -> f64
 
 fn fixed(times: &[i64], centers: &[f64], rec_ecef: Vec3, a: f64, i: f64) -> Fixed
     requires { ⌜ Timed (now times) ⌝ }
-    ensures { λ r. ⌜ (r ≡ fixedOf (now (times .entry)) (now (centers .entry)) «rec_ecef» a i) × Within 0 (r .epoch .secs) (r .epoch .nanos) ⌝ }
+    ensures { λ r. ⌜ (r ≡ fixedOf (now (times .entry)) (now (centers .entry)) «rec_ecef» a i) × Within 0 (r .station .epoch .secs) (r .station .epoch .nanos) ⌝ }
 {
-    let epoch = epoch_of(times);
-    let center_freq = first_center(centers);
-    Fixed {
-        rec_ecef,
-        a,
-        i,
-        epoch,
-        center_freq,
-    }
+    let station = station(times, first_center(centers), rec_ecef);
+    Fixed { station, a, i }
 }
 
 // The best of all 144 starts on a pass set. The table, of 48,032 places or more, is worked in.
@@ -173,19 +180,6 @@ pub fn search_starts(
 }
 
 // ---- residuals
-
-// What the predictions share.
-fn station(times: &[i64], center_freq: f64, rec_ecef: Vec3) -> Station
-    requires { ⌜ Timed (now times) ⌝ }
-    ensures { λ r. ⌜ (r ≡ stationOf (now (times .entry)) «center_freq» «rec_ecef») × Sound (r .epoch .secs) (r .epoch .nanos) ⌝ }
-{
-    let epoch = epoch_of(times);
-    Station {
-        epoch,
-        center_freq,
-        rec_ecef,
-    }
-}
 
 // The samples' moments as counts, and the rotations then.
 fn prepare(times: &[i64], counted: &mut [u64], turns: &mut [f64])
@@ -314,19 +308,12 @@ fn turned(
     if !running(e) {
         return after;
     }
-    let f = trials::follow(
+    let w = Refinement {
         second,
         enough,
-        t.kept,
-        counts,
-        times,
-        freqs,
-        turns,
-        g,
-        after,
-        &mut r,
-        scratch,
-    );
+        station: g,
+    };
+    let f = trials::follow(w, counts, times, freqs, turns, t, &mut r, scratch);
     f.state
 }
 

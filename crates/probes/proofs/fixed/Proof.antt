@@ -4,7 +4,7 @@ use Rattle.probes.proofs.fixed.Statement.{statement}
 use Rattle.probes.proofs.fixed.Tie as tie
 
 returns : tie.Need-returns
-returns c = (simp (c .before .epoch-of .ensures .0, c .first-center .ensures), c .before .epoch-of .ensures .1)
+returns c = (simp (c .station .ensures .0, c .before .first-center .ensures), c .station .ensures .1)
 
 pub fixed-spec : {M : Type 1} → statement M
 fixed-spec = tie.close (tie.spec (λ c κs. search needs) (λ c κs. search needs) returns)

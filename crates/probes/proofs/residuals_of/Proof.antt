@@ -1,6 +1,8 @@
 -- `residuals_of` meets its contract. Assumes nothing.
 use mathlib.Core.Path.{sym, _∙_}
 use Rattle.probes.proofs.Calls.{taken, sums-refused}
+use lib.Dec.{lit≤}
+use Rattle.moment.proofs.Samples.{within-sound}
 use borrow.Author.Needs.{needs}
 use Rattle.probes.proofs.residuals_of.Statement.{statement}
 use Rattle.probes.proofs.residuals_of.Tie as tie
@@ -16,7 +18,7 @@ sum-in-requires c κs =
     let e = c .before .before .before .before in
     let ok = taken _ _ _ _ _ _ (sym (e .before .refusal-of .ensures) ∙ e .if1 .left) in (
       record { timed = ok .timed; agree = ok .agree; small = ok .small; places = search needs; pairs = search needs },
-      c .before .before .before .station .ensures .1,
+      within-sound 0 _ _ (lit≤ tt) (c .before .before .before .station .ensures .1),
       ok .enough,
     )
 

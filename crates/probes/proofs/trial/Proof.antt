@@ -1,5 +1,7 @@
 -- `trial` meets its contract. Assumes nothing.
 use mathlib.Core.Path.{sym, ap, _∙_}
+use lib.Dec.{lit≤}
+use Rattle.moment.proofs.Samples.{within-sound}
 use borrow.Author.Needs.{needs}
 use Rattle.book.specs.Book.{After}
 use Rattle.probes.specs.Call.{endingRefusal}
@@ -19,7 +21,7 @@ turned-in-requires c κs =
     let l = s .before in
     let ok = taken _ _ _ _ _ _ (sym (l .before .refusal-of .ensures) ∙ l .if1 .left) in (
       record { timed = ok .timed; agree = ok .agree; small = ok .small; places = search needs; pairs = search needs },
-      s .station .ensures .1,
+      within-sound 0 _ _ (lit≤ tt) (s .station .ensures .1),
       ok .enough,
     )
 
