@@ -23,10 +23,10 @@ use Rattle.orbit.specs.declared.doppler.Sight.{Sight}
 use Rattle.orbit.specs.declared.doppler.Prediction.{Prediction}
 use Rattle.orbit.specs.declared.doppler.Prediction.the-variants.{Frequency, Refused}
 use Rattle.orbit.specs.Orbit.{propagatedOf}
-use Rattle.orbit.specs.Doppler.{adjustedOf, correctedOf, driftOf, epochCount, sightOf, predictedAt, predicted-hoisted}
+use Rattle.orbit.specs.Doppler.{adjustedOf, correctedOf, driftOf, epochCount, sightOf, predictedAt, predicted-hoisted, frequencyOf}
 use Rattle.orbit.proofs.Predicts.{accepted}
 use Rattle.orbit.proofs.Hoisted.{predicted-at}
-use Rattle.approach.specs.Sums.{frequencyOf, predictionAt, Shifted}
+use Rattle.approach.specs.Sums.{predictionAt, Shifted}
 use Rattle.approach.specs.Turns.{reach, Seen, Shift}
 
 -- ---- a moment moved by a little

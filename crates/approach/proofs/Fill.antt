@@ -15,7 +15,7 @@ use Rattle.float.specs.declared.trig.SinCos.{SinCos}
 use Rattle.pass_set.specs.PassSet.{passOf, countOf, total, AtPass}
 use Rattle.pass_set.proofs.Laws.{start-zero, start-last, pass-part}
 use Rattle.approach.specs.Pca.{obsPcaTime}
-use Rattle.approach.specs.Turns.{entries, PassSet, Entry, Held, Window, window, Windowed, Tabled, putTurn, Kept, Written, seconds, moments, PassWritten, SetWritten}
+use Rattle.approach.specs.Turns.{entries, SoundSet, Entry, Held, Window, window, Windowed, Tabled, putTurn, Kept, Entered, windowMoment, moments, PassWritten, SetWritten}
 
 -- ---- one entry
 
@@ -71,19 +71,19 @@ keep-windowed k h w = record { seen = λ some. record { small = w .seen some .sm
 -- ---- a loop's entries
 
 module _ (t : ℕ → Instant) (at : ℕ) where
-  pub written-none : (table : List Float) → Written t at 0 table table
+  pub written-none : (table : List Float) → Entered t at 0 table table
   written-none table = record { kept = kept-none at table; each = λ j h. absurd (omega (arith, h)) }
 
   entry-at : {n j : ℕ} {table : List Float} → n ≡ j → Entry table (at + n) (t n .secs) (t n .nanos) → Entry table (at + j) (t j .secs) (t j .nanos)
   entry-at {n} {j} {table} e h = rw (← e) h
 
-  each-more : (n j : ℕ) (old new : List Float) → 2 * (at + n) + 1 < length new → Written t at n old new → (j ≡ n) ⊎ (j < n)
+  each-more : (n j : ℕ) (old new : List Float) → 2 * (at + n) + 1 < length new → Entered t at n old new → (j ≡ n) ⊎ (j < n)
       → Entry (putTurn new (at + n) (t n .secs) (t n .nanos)) (at + j) (t j .secs) (t j .nanos)
   each-more n j old new h w (inl e) = entry-at (sym e) (put-entry new (at + n) (t n .secs) (t n .nanos) h)
   each-more n j old new h w (inr l) = keep-entry (put-kept new (at + n) (t n .secs) (t n .nanos)) (omega (arith, l)) (w .each j l)
 
-  pub written-more : (n : ℕ) (old new next : List Float) → 2 * (at + n) + 1 < length new → Written t at n old new → next ≡ putTurn new (at + n) (t n .secs) (t n .nanos)
-      → Written t at (n + 1) old next
+  pub written-more : (n : ℕ) (old new next : List Float) → 2 * (at + n) + 1 < length new → Entered t at n old new → next ≡ putTurn new (at + n) (t n .secs) (t n .nanos)
+      → Entered t at (n + 1) old next
   written-more n old new next h w e =
       rw e
       record {
@@ -96,11 +96,11 @@ module _ (t : ℕ → Instant) (at : ℕ) where
 pub pass-none : (at : ℕ) (center : Float) (times : List ℤ) (freqs table : List Float) → length freqs ≡ 0 → PassWritten at center times freqs table table
 pass-none at center times freqs table e = record { kept = kept-none at table; windowed = record { seen = λ h. absurd (omega (arith, h, e)) } }
 
-seconds-window : (at : ℕ) (m : Instant) (old new : List Float) → at ≤ 100000 → Written (seconds m) at entries old new → Window new at (window m) (m .nanos)
+seconds-window : (at : ℕ) (m : Instant) (old new : List Float) → at ≤ 100000 → Entered (windowMoment m) at entries old new → Window new at (window m) (m .nanos)
 seconds-window at m old new h w = record { small = h; each = λ j l. record { entry = λ _. w .each j l } }
 
 pub pass-filled : (at : ℕ) (center : Float) (times : List ℤ) (freqs old new : List Float) (m : Instant) → m ≡ obsPcaTime times freqs center → at ≤ 100000
-    → Written (seconds m) at entries old new → PassWritten at center times freqs old new
+    → Entered (windowMoment m) at entries old new → PassWritten at center times freqs old new
 pass-filled at center times freqs old new m e h w = record { kept = w .kept; windowed = record { seen = λ _. rw (← e) (seconds-window at m old new h w) } }
 
 -- of the part from k on
@@ -126,7 +126,7 @@ module _ (first : Float) (counts : List ℕ) (times : List ℤ) (freqs : List Fl
       → Windows new first counts times freqs (p + 1)
   windows-more p old new w a = record { each = λ q h. let m : q ≤ p = omega arith in window-more p q old new w a (eq-or-lt-of-le m) }
 
-  pub tabled : (old new : List Float) → length counts ≤ 16 → Windows old first counts times freqs (length counts) → Written (moments times) (entries * length counts) (length times) old new
+  pub tabled : (old new : List Float) → length counts ≤ 16 → Windows old first counts times freqs (length counts) → Entered (moments times) (entries * length counts) (length times) old new
       → Tabled new first counts times freqs
   tabled old new few a w =
       record {
@@ -137,7 +137,7 @@ module _ (first : Float) (counts : List ℕ) (times : List ℤ) (freqs : List Fl
 no-samples : (counts : List ℕ) → length counts ≡ 0 → total counts ≡ 0
 no-samples counts e = sym (start-last counts 0 (omega (arith, e))) ∙ start-zero counts
 
-pub set-none : (counts : List ℕ) (times : List ℤ) (freqs centers table : List Float) → length counts ≡ 0 → PassSet counts times freqs centers → SetWritten counts times freqs centers table table
+pub set-none : (counts : List ℕ) (times : List ℤ) (freqs centers table : List Float) → length counts ≡ 0 → SoundSet counts times freqs centers → SetWritten counts times freqs centers table table
 set-none counts times freqs centers table e s =
     let z = no-samples counts e in
     let whole : total counts ≡ length times = s .sizes .whole in

@@ -16,9 +16,9 @@ use Rattle.orbit.specs.declared.doppler.Sight.{Sight}
 use Rattle.orbit.specs.Doppler.{sightOf}
 use Rattle.approach.specs.Sums.{passSumOf, passAddOf, rssOf}
 use Rattle.approach.specs.Pca.{predPcaTime, putPcaOf, pcaTimesOf}
-use Rattle.approach.specs.Turns.{Seen, Samples, PassSet, Windowed, Sampled}
+use Rattle.approach.specs.Turns.{Seen, PassSamples, SoundSet, Windowed, Sampled}
 
-pass-timed : {counts : List ℕ} {times : List ℤ} {freqs centers : List Float} (p : ℕ) → PassSet counts times freqs centers → p < length counts → Timed (passOf counts p times)
+pass-timed : {counts : List ℕ} {times : List ℤ} {freqs centers : List Float} (p : ℕ) → SoundSet counts times freqs centers → p < length counts → Timed (passOf counts p times)
 pass-timed {counts} {times} {freqs} {centers} p s h =
     let whole : total counts ≡ length times = s .sizes .whole in
     let n = pass-length counts p times h (omega arith) in
@@ -29,8 +29,8 @@ pass-timed {counts} {times} {freqs} {centers} p s h =
           rw (pass-at counts p j times (pos 0) i) (s .timed .each (startOf counts p + j) m);
     }
 
-pass-samples : {counts : List ℕ} {times : List ℤ} {freqs centers : List Float} (p : ℕ) → PassSet counts times freqs centers → p < length counts
-    → Samples (passOf counts p times) (passOf counts p freqs)
+pass-samples : {counts : List ℕ} {times : List ℤ} {freqs centers : List Float} (p : ℕ) → SoundSet counts times freqs centers → p < length counts
+    → PassSamples (passOf counts p times) (passOf counts p freqs)
 pass-samples {counts} {times} {freqs} {centers} p s h =
     let whole : total counts ≡ length times = s .sizes .whole in
     let pairs : length freqs ≡ length times = s .sizes .pairs in
@@ -43,8 +43,8 @@ pass-samples {counts} {times} {freqs} {centers} p s h =
     }
 
 -- the same of the part from k on
-pub part-samples : {counts : List ℕ} {times : List ℤ} {freqs centers : List Float} {p k : ℕ} → PassSet counts times freqs centers → p < length counts → AtPass counts p k
-    → Samples (take (k + countOf counts p - k) (drop k times)) (take (k + countOf counts p - k) (drop k freqs))
+pub part-samples : {counts : List ℕ} {times : List ℤ} {freqs centers : List Float} {p k : ℕ} → SoundSet counts times freqs centers → p < length counts → AtPass counts p k
+    → PassSamples (take (k + countOf counts p - k) (drop k times)) (take (k + countOf counts p - k) (drop k freqs))
 part-samples {times = times} {freqs = freqs} {p = p} s h a = rw (pass-part times a, pass-part freqs a) (pass-samples p s h)
 
 -- the sum of the part from k on is pass p's

@@ -9,7 +9,7 @@ use lib.IntN.{ℤ}
 use lib.ListN.{length}
 use lib.Ieee.{Float}
 use Rattle.refusal.specs.Numbers.{moment-range, sizes, short-memory}
-use Rattle.refusal.specs.Order.{_if_, first}
+use Rattle.refusal.specs.Order.{_if_, first, unlessRefused}
 use Rattle.float.specs.Ops.{bits}
 use Rattle.moment.specs.declared.Moment.{Moment}
 use Rattle.moment.specs.declared.Instant.{Instant}
@@ -26,8 +26,8 @@ use Rattle.orbit.specs.Doppler.{stationAt}
 use Rattle.approach.specs.declared.Rss.{Rss}
 use Rattle.approach.specs.declared.Gradient.{Gradient}
 use Rattle.approach.specs.declared.Gradients.{Gradients}
-use Rattle.approach.specs.Turns.{PassSet}
-use Rattle.approach.specs.Answers.{setRefusalOf, refusalOf, pcaRefusalOf, written, rssAnswer, noGradient, gradientAnswer}
+use Rattle.approach.specs.Turns.{SoundSet}
+use Rattle.approach.specs.Answers.{setRefusalOf, sumRefusal, pcaRefusalOf, rssAnswer, noGradient, gradientAnswer}
 
 -- ---- a pass set
 
@@ -37,7 +37,7 @@ none-given true false e = absurd (omega (arith, e))
 none-given false b e = absurd (omega (arith, e))
 
 -- no refusal: the samples are in range, and the sizes agree
-pub accepted-set : (counts : List ℕ) (times : List ℤ) (freqs centers : List Float) → setRefusalOf counts times freqs centers ≡ 0 → PassSet counts times freqs centers
+pub accepted-set : (counts : List ℕ) (times : List ℤ) (freqs centers : List Float) → setRefusalOf counts times freqs centers ≡ 0 → SoundSet counts times freqs centers
 unfolding setRefusalOf
 accepted-set counts times freqs centers e =
     let s = none-given (timesInRange times) (sizesAgree counts (length times) (length freqs) (length centers)) e in
@@ -58,8 +58,8 @@ last-of false true c n e h = absurd (omega (arith, e))
 last-of false false c n e h = h
 
 module _ (epoch : Moment) (counts : List ℕ) (times : List ℤ) (freqs centers : List Float) where
-  pub epoch-out : Outside ≡ givenOf (epoch .seconds) (epoch .nanos) → moment-range ≡ refusalOf epoch counts times freqs centers
-  unfolding refusalOf
+  pub epoch-out : Outside ≡ givenOf (epoch .seconds) (epoch .nanos) → moment-range ≡ sumRefusal epoch counts times freqs centers
+  unfolding sumRefusal
   epoch-out h = simp (outside (epoch .seconds) (epoch .nanos) h)
 
   pub pca-epoch-out : (room : ℕ) → Outside ≡ givenOf (epoch .seconds) (epoch .nanos) → moment-range ≡ pcaRefusalOf epoch counts times freqs centers room
@@ -67,8 +67,8 @@ module _ (epoch : Moment) (counts : List ℕ) (times : List ℤ) (freqs centers 
   pca-epoch-out room h = simp (outside (epoch .seconds) (epoch .nanos) h)
 
   module _ (i : Instant) (g : At i ≡ givenOf (epoch .seconds) (epoch .nanos)) where
-    pub epoch-in : setRefusalOf counts times freqs centers ≡ refusalOf epoch counts times freqs centers
-    unfolding refusalOf setRefusalOf
+    pub epoch-in : setRefusalOf counts times freqs centers ≡ sumRefusal epoch counts times freqs centers
+    unfolding sumRefusal setRefusalOf
     epoch-in = simp (at-is (epoch .seconds) (epoch .nanos) i g .yes)
 
     pub pca-refused : (room n : ℕ) → n ≡ setRefusalOf counts times freqs centers → (n ≡ 0 → ⊥) → n ≡ pcaRefusalOf epoch counts times freqs centers room
@@ -104,6 +104,6 @@ pub gradient-refused : (n : ℕ) (g : Gradient) → (n ≡ 0 → ⊥) → _≡_ 
 gradient-refused zero g h = absurd (h refl)
 gradient-refused (suc n) g h = refl
 
-pub kept : (n : ℕ) (new old : List ℤ) → (n ≡ 0 → ⊥) → old ≡ written n new old
+pub kept : (n : ℕ) (new old : List ℤ) → (n ≡ 0 → ⊥) → old ≡ unlessRefused n new old
 kept zero new old h = absurd (h refl)
 kept (suc n) new old h = refl

@@ -12,7 +12,7 @@ use Rattle.moment.specs.declared.Instant.{Instant}
 use Rattle.moment.specs.Sample.{instantAt}
 use Rattle.pass_set.specs.PassSet.{countOf, startOf, passOf, total, AtPass}
 use Rattle.pass_set.proofs.Laws.{start-fits, pass-length, pass-at}
-use Rattle.approach.specs.Turns.{entries, PassSet, Entry, Held, Window, window, Windowed, Sampled, Tabled}
+use Rattle.approach.specs.Turns.{entries, SoundSet, Entry, Held, Window, window, Windowed, Sampled, Tabled}
 use Rattle.approach.specs.Pca.{obsPcaTime}
 
 pub entry : {table : List Float} {j secs nanos : ℕ} → Held table j secs nanos → (length table ≡ 0 → ⊥) → Entry table j secs nanos
@@ -47,7 +47,7 @@ held-at : (table : List Float) (i j : ℕ) (t u : ℤ) → i ≡ j → t ≡ u �
 held-at table i j t u p q h = rw (← p, ← q) h
 
 pub pass-sampled : (table : List Float) (first : Float) (counts : List ℕ) (times : List ℤ) (freqs centers : List Float) (p k : ℕ)
-    → PassSet counts times freqs centers → p < length counts → AtPass counts p k → Tabled table first counts times freqs → Sampled table (entries * length counts + k) (passOf counts p times)
+    → SoundSet counts times freqs centers → p < length counts → AtPass counts p k → Tabled table first counts times freqs → Sampled table (entries * length counts + k) (passOf counts p times)
 pass-sampled table first counts times freqs centers p k s h a t =
     let whole : total counts ≡ length times = s .sizes .whole in
     let few : length counts ≤ 16 = s .sizes .few in

@@ -8,7 +8,7 @@ use lib.IntN.{ℤ}
 use lib.ListN.{length}
 use lib.Ieee.{Float}
 use Rattle.refusal.specs.Numbers.{moment-range, sizes, short-memory}
-use Rattle.refusal.specs.Order.{Refusal, _if_, first}
+use Rattle.refusal.specs.Order.{Refusal, _if_, first, unlessRefused}
 use Rattle.float.specs.Ops.{bits}
 use Rattle.moment.specs.declared.Moment.{Moment}
 use Rattle.moment.specs.Range.{taken}
@@ -35,18 +35,14 @@ inputRefusals epoch counts times freqs centers rest = (moment-range if not (take
 unfoldable pub setRefusalOf : List ℕ → List ℤ → List Float → List Float → ℕ
 setRefusalOf counts times freqs centers = first (setRefusals counts times freqs centers [])
 
-unfoldable pub refusalOf : Moment → List ℕ → List ℤ → List Float → List Float → ℕ
-refusalOf epoch counts times freqs centers = first (inputRefusals epoch counts times freqs centers [])
+unfoldable pub sumRefusal : Moment → List ℕ → List ℤ → List Float → List Float → ℕ
+sumRefusal epoch counts times freqs centers = first (inputRefusals epoch counts times freqs centers [])
 
 -- 21: the output is shorter than the passes
 unfoldable pub pcaRefusalOf : (epoch : Moment) (counts : List ℕ) (times : List ℤ) (freqs centers : List Float) (room : ℕ) → ℕ
 pcaRefusalOf epoch counts times freqs centers room = first (inputRefusals epoch counts times freqs centers ((short-memory if ltb room (length counts)) ∷ []))
 
 -- ---- answers: on a refusal zeros, and the output as it was
-
-abbrev pub written : ℕ → List ℤ → List ℤ → List ℤ
-written zero new old = new
-written (suc n) new old = old
 
 abbrev pub rssAnswer : ℕ → Float → Rss
 rssAnswer zero v = record { refusal = 0; rss = v }
@@ -62,4 +58,4 @@ gradientAnswer (suc n) g = record { refusal = suc n; gradient = noGradient }
 -- of get_pred_pca_times: the refusal's number or 0, and the output. No frequency is predicted, so that the station's centre is read by nothing
 pub record FindsPcas (a i raan u0 : Float) (epoch : Moment) (rec : Vec3) (counts : List ℕ) (times : List ℤ) (freqs centers : List Float) (out out′ : List ℤ) (r : ℕ) : Type 0 where
   pub answer : r ≡ pcaRefusalOf epoch counts times freqs centers (length out)
-  pub output : out′ ≡ written r (pcaTimesOf (stationAt epoch (bits 0) rec) (record { a = a; i = i; raan0 = raan; u0 = u0 }) counts times freqs centers out) out
+  pub output : out′ ≡ unlessRefused r (pcaTimesOf (stationAt epoch (bits 0) rec) (record { a = a; i = i; raan0 = raan; u0 = u0 }) counts times freqs centers out) out

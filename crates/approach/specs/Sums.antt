@@ -18,8 +18,8 @@ use Rattle.frame.specs.Rotation.{turnAt}
 use Rattle.orbit.specs.declared.Elements.{Elements}
 use Rattle.orbit.specs.declared.doppler.Station.{Station}
 use Rattle.orbit.specs.declared.doppler.Prediction.{Prediction}
-use Rattle.orbit.specs.declared.doppler.Prediction.the-variants.{Frequency, Refused}
-use Rattle.orbit.specs.Doppler.{predictedOf}
+use Rattle.orbit.specs.declared.doppler.Prediction.the-variants.{Frequency}
+use Rattle.orbit.specs.Doppler.{predictedOf, frequencyOf}
 use Rattle.approach.specs.declared.Gradient.{Gradient}
 use Rattle.approach.specs.Pca.{obsPcaTime, predPcaTime}
 
@@ -34,11 +34,6 @@ hundred-bits = refl
 abbrev pub secondsFrom : Instant → Instant → Float
 secondsFrom t e = tauMillisOf (nanosOf (t .secs) (t .nanos)) (nanosOf (e .secs) (e .nanos))
 
--- a prediction's frequency. None of a sum's is refused: theorem `never-far` of proofs/Far.antt
-abbrev pub frequencyOf : Prediction → Float
-frequencyOf (Frequency f) = f
-frequencyOf (Refused n) = nan
-
 -- r is what was predicted, and no refusal
 pub record Shifted (r : Float) (p : Prediction) : Type 0 where
   pub is : Frequency r ≡ p
@@ -48,7 +43,7 @@ module _ (g : Station) (e : Elements) where
   unfoldable pub predictionAt : Float → Instant → Prediction
   predictionAt dt t = predictedOf g e (nanosOf (t .secs) (t .nanos)) (turnAt (t .secs) (t .nanos)) dt (bits 0) (bits 0)
 
-  -- sample k's: its frequency less centre and prediction, squared
+  -- sample k's: its frequency less centre and prediction, squared; none is refused (theorem `never-far` of proofs/Far.antt)
   unfoldable pub sampleOf : (dt : Float) (times : List ℤ) (freqs : List Float) (k : ℕ) (rss : Float) → Float
   sampleOf dt times freqs k rss =
       let diff = getD freqs k nan ⊖ (g .«center_freq» ⊕ frequencyOf (predictionAt dt (instantAt (getD times k (pos 0))))) in

@@ -33,13 +33,13 @@ pub record Seen (v : Sight) : Type 0 where
   pub within : Within 0 (v .station .epoch .secs) (v .station .epoch .nanos)
 
 -- of one pass's samples
-pub record Samples (times : List ℤ) (freqs : List Float) : Type 0 where
+pub record PassSamples (times : List ℤ) (freqs : List Float) : Type 0 where
   pub pairs : length freqs ≡ length times
   pub few : length times ≤ 4096
   pub timed : Timed times
 
 -- of a pass set: it passed refusals 4 and 5
-pub record PassSet (counts : List ℕ) (times : List ℤ) (freqs centers : List Float) : Type 0 where
+pub record SoundSet (counts : List ℕ) (times : List ℤ) (freqs centers : List Float) : Type 0 where
   pub sizes : Sizes counts (length times) (length freqs) (length centers)
   pub timed : Timed times
 
@@ -112,13 +112,13 @@ pub record Kept (at : ℕ) (old new : List Float) : Type 0 where
   pub below : (m : ℕ) → m < 2 * at → getD new m nan ≡ getD old m nan
 
 -- n entries from at on are for the moments t 0, t 1, ..
-pub record Written (t : ℕ → Instant) (at n : ℕ) (old new : List Float) : Type 0 where
+pub record Entered (t : ℕ → Instant) (at n : ℕ) (old new : List Float) : Type 0 where
   pub kept : Kept at old new
   pub each : (j : ℕ) → j < n → Entry new (at + j) (t j .secs) (t j .nanos)
 
 -- the window of t, second by second, and the samples' moments
-abbrev pub seconds : Instant → ℕ → Instant
-seconds t j = record { secs = window t + j; nanos = t .nanos }
+abbrev pub windowMoment : Instant → ℕ → Instant
+windowMoment t j = record { secs = window t + j; nanos = t .nanos }
 
 abbrev pub moments : List ℤ → ℕ → Instant
 moments times k = instantAt (getD times k (pos 0))

@@ -6,7 +6,7 @@ pub mod turns;
 ghost use mathlib.Core.Path.{_≡_};
 ghost use Rattle.orbit.specs.Doppler.{stationAt};
 ghost use Rattle.approach.specs.Sums.{rssOf, gradientOf};
-ghost use Rattle.approach.specs.Answers.{setRefusalOf, refusalOf, FindsPcas, rssAnswer, gradientAnswer};
+ghost use Rattle.approach.specs.Answers.{setRefusalOf, sumRefusal, FindsPcas, rssAnswer, gradientAnswer};
 use frame::Vec3;
 use moment::Given;
 use moment::Moment;
@@ -123,7 +123,7 @@ pub fn compute_rss(
     raan0: f64,
     u0: f64,
 ) -> Rss
-    ensures { λ r. ⌜ r ≡ rssAnswer (refusalOf epoch (now (counts .entry)) (now (times .entry)) (now (freqs .entry)) (now (centers .entry)))
+    ensures { λ r. ⌜ r ≡ rssAnswer (sumRefusal epoch (now (counts .entry)) (now (times .entry)) (now (freqs .entry)) (now (centers .entry)))
         (rssOf (stationAt epoch «center_freq» «rec_ecef») (record { a = «initial_a»; i = «initial_i»; raan0 = raan0; u0 = u0 }) (now (counts .entry)) (now (times .entry)) (now (freqs .entry)) (now (centers .entry))) ⌝ }
 {
     let Given::At(t) = moment::instant_of(epoch) else {
@@ -165,7 +165,7 @@ pub fn compute_gradient(
     raan0: f64,
     u0: f64,
 ) -> Gradients
-    ensures { λ r. ⌜ r ≡ gradientAnswer (refusalOf epoch (now (counts .entry)) (now (times .entry)) (now (freqs .entry)) (now (centers .entry)))
+    ensures { λ r. ⌜ r ≡ gradientAnswer (sumRefusal epoch (now (counts .entry)) (now (times .entry)) (now (freqs .entry)) (now (centers .entry)))
         (gradientOf (stationAt epoch «center_freq» «rec_ecef») (record { a = a; i = i; raan0 = raan0; u0 = u0 }) (now (counts .entry)) (now (times .entry)) (now (freqs .entry)) (now (centers .entry))) ⌝ }
 {
     let zeros = Gradient {

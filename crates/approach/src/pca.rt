@@ -6,7 +6,7 @@ ghost use lib.IntN.{pos};
 ghost use Rattle.moment.specs.Range.{Within};
 ghost use Rattle.moment.specs.Sample.{Timed, instantAt, sinceOf};
 ghost use Rattle.approach.specs.Pca.{nearerOf, obsPcaAt, obsPcaTime, squareOf, closerOf, searchedOf, closestOf, predPcaTime, pcaTimesOf};
-ghost use Rattle.approach.specs.Turns.{reach, Seen, Samples, PassSet, Around, Beside, Window, Held, Windowed, window};
+ghost use Rattle.approach.specs.Turns.{reach, Seen, PassSamples, SoundSet, Around, Beside, Window, Held, Windowed, window};
 use crate::Closest;
 use crate::Nearest;
 use crate::Stage;
@@ -52,7 +52,7 @@ pub fn moment_at(times: &[i64], k: usize) -> Instant
 }
 
 pub fn obs_pca_time(times: &[i64], freqs: &[f64], center: f64) -> Instant
-    requires { ⌜ Samples (now times) (now freqs) × (0 < length (now freqs)) ⌝ }
+    requires { ⌜ PassSamples (now times) (now freqs) × (0 < length (now freqs)) ⌝ }
     ensures { λ r. ⌜ (r ≡ obsPcaTime (now (times .entry)) (now (freqs .entry)) center) × Within 0 (r .secs) (r .nanos) ⌝ }
 {
     moment_at(times, obs_pca_at(freqs, center))
@@ -152,7 +152,7 @@ pub fn pred_pca_time(
     times: &[i64],
     freqs: &[f64],
 ) -> Instant
-    requires { ⌜ Seen v × Samples (now times) (now freqs) × Windowed (now table) at first (now times) (now freqs) ⌝ }
+    requires { ⌜ Seen v × PassSamples (now times) (now freqs) × Windowed (now table) at first (now times) (now freqs) ⌝ }
     ensures { λ r. ⌜ (r ≡ predPcaTime (v .station) (v .e) first (now (times .entry)) (now (freqs .entry))) × Within reach (r .secs) (r .nanos) ⌝ }
 {
     if freqs.len() == 0 {
@@ -163,7 +163,7 @@ pub fn pred_pca_time(
 
 // The same into place p of out, in nanoseconds since 1970, with no table.
 fn put_pca(v: Sight, first: f64, times: &[i64], freqs: &[f64], out: &mut [i64], p: usize)
-    requires { ⌜ Seen v × Samples (now times) (now freqs) × (p < length (now out)) ⌝ }
+    requires { ⌜ Seen v × PassSamples (now times) (now freqs) × (p < length (now out)) ⌝ }
     ensures { λ _. ⌜ now (out .exit) ≡ set (now (out .entry)) p (sinceOf (predPcaTime (v .station) (v .e) first (now (times .entry)) (now (freqs .entry)))) ⌝ }
 {
     let t = pred_pca_time(v, first, &freqs[0..0], 0, times, freqs);
@@ -180,7 +180,7 @@ pub fn pca_times(
     centers: &[f64],
     out: &mut [i64],
 )
-    requires { ⌜ Within 0 (g .epoch .secs) (g .epoch .nanos) × PassSet (now counts) (now times) (now freqs) (now centers) × (length (now counts) ≤ length (now out)) ⌝ }
+    requires { ⌜ Within 0 (g .epoch .secs) (g .epoch .nanos) × SoundSet (now counts) (now times) (now freqs) (now centers) × (length (now counts) ≤ length (now out)) ⌝ }
     ensures { λ _. ⌜ now (out .exit) ≡ pcaTimesOf g e (now (counts .entry)) (now (times .entry)) (now (freqs .entry)) (now (centers .entry)) (now (out .entry)) ⌝ }
 {
     if counts.len() == 0 {

@@ -6,7 +6,7 @@ ghost use lib.ListN.{length, getD};
 ghost use lib.Ieee.{nan};
 ghost use Rattle.moment.specs.Range.{Within};
 ghost use Rattle.approach.specs.Sums.{predictionAt, sampleOf, samplesOf, passSumOf, rssOf, gradientOf, Shifted};
-ghost use Rattle.approach.specs.Turns.{Seen, Samples, PassSet, Shift, Held, Windowed, Sampled, Tabled, moments};
+ghost use Rattle.approach.specs.Turns.{Seen, PassSamples, SoundSet, Shift, Held, Windowed, Sampled, Tabled, moments};
 use crate::Gradient;
 use moment::Instant;
 use orbit::Elements;
@@ -37,7 +37,7 @@ fn sample(
     n: usize,
     rss: f64,
 ) -> f64
-    requires { ⌜ (Seen v × Shift dt) × (Samples (now times) (now freqs) × (n < length (now freqs)) × Held (now table) j (moments (now times) n .secs) (moments (now times) n .nanos)) ⌝ }
+    requires { ⌜ (Seen v × Shift dt) × (PassSamples (now times) (now freqs) × (n < length (now freqs)) × Held (now table) j (moments (now times) n .secs) (moments (now times) n .nanos)) ⌝ }
     ensures { λ r. ⌜ r ≡ sampleOf (v .station) (v .e) dt (now (times .entry)) (now (freqs .entry)) n rss ⌝ }
 {
     let freq = freqs[n];
@@ -57,7 +57,7 @@ fn samples(
     freqs: &[f64],
     rss: f64,
 ) -> f64
-    requires { ⌜ (Seen v × Shift dt) × (Samples (now times) (now freqs) × Sampled (now table) at (now times)) ⌝ }
+    requires { ⌜ (Seen v × Shift dt) × (PassSamples (now times) (now freqs) × Sampled (now table) at (now times)) ⌝ }
     ensures { λ r. ⌜ r ≡ samplesOf (v .station) (v .e) dt (now (times .entry)) (now (freqs .entry)) rss ⌝ }
 {
     let mut sum = rss;
@@ -79,7 +79,7 @@ fn pass_sum(
     freqs: &[f64],
     rss: f64,
 ) -> f64
-    requires { ⌜ Seen v × Samples (now times) (now freqs) × Windowed (now table) at first (now times) (now freqs) × Sampled (now table) from (now times) ⌝ }
+    requires { ⌜ Seen v × PassSamples (now times) (now freqs) × Windowed (now table) at first (now times) (now freqs) × Sampled (now table) from (now times) ⌝ }
     ensures { λ r. ⌜ r ≡ passSumOf (v .station) (v .e) first (now (times .entry)) (now (freqs .entry)) rss ⌝ }
 {
     if freqs.len() == 0 {
@@ -102,7 +102,7 @@ pub fn rss(
     g: Station,
     e: Elements,
 ) -> f64
-    requires { ⌜ Within 0 (g .epoch .secs) (g .epoch .nanos) × PassSet (now counts) (now times) (now freqs) (now centers) × Tabled (now table) (getD (now centers) 0 nan) (now counts) (now times) (now freqs) ⌝ }
+    requires { ⌜ Within 0 (g .epoch .secs) (g .epoch .nanos) × SoundSet (now counts) (now times) (now freqs) (now centers) × Tabled (now table) (getD (now centers) 0 nan) (now counts) (now times) (now freqs) ⌝ }
     ensures { λ r. ⌜ r ≡ rssOf g e (now (counts .entry)) (now (times .entry)) (now (freqs .entry)) (now (centers .entry)) ⌝ }
 {
     let mut sum = 0.0;
@@ -140,7 +140,7 @@ pub fn gradient(
     g: Station,
     e: Elements,
 ) -> Gradient
-    requires { ⌜ Within 0 (g .epoch .secs) (g .epoch .nanos) × PassSet (now counts) (now times) (now freqs) (now centers) × Tabled (now table) (getD (now centers) 0 nan) (now counts) (now times) (now freqs) ⌝ }
+    requires { ⌜ Within 0 (g .epoch .secs) (g .epoch .nanos) × SoundSet (now counts) (now times) (now freqs) (now centers) × Tabled (now table) (getD (now centers) 0 nan) (now counts) (now times) (now freqs) ⌝ }
     ensures { λ r. ⌜ r ≡ gradientOf g e (now (counts .entry)) (now (times .entry)) (now (freqs .entry)) (now (centers .entry)) ⌝ }
 {
     let rss_base = rss(counts, times, freqs, centers, table, g, e);

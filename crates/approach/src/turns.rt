@@ -6,7 +6,7 @@ ghost use lib.ListN.{length};
 ghost use Rattle.frame.specs.Rotation.{turnAt};
 ghost use Rattle.moment.specs.Range.{Within};
 ghost use Rattle.moment.specs.Sample.{Timed};
-ghost use Rattle.approach.specs.Turns.{reach, entries, Samples, PassSet, Held, putTurn, Written, seconds, moments, PassWritten, SetWritten};
+ghost use Rattle.approach.specs.Turns.{reach, entries, PassSamples, SoundSet, Held, putTurn, Entered, windowMoment, moments, PassWritten, SetWritten};
 use float::trig::SinCos;
 use moment::Instant;
 
@@ -42,7 +42,7 @@ fn put_turn(table: &mut [f64], j: usize, t: Instant)
 // The seconds from 622 before t to 622 after, into the entries from `at` on.
 fn fill_window(table: &mut [f64], at: usize, t: Instant)
     requires { ⌜ Within 0 (t .secs) (t .nanos) × (2 * (at + entries) ≤ length (now table)) ⌝ }
-    ensures { λ _. ⌜ Written (seconds t) at entries (now (table .entry)) (now (table .exit)) ⌝ }
+    ensures { λ _. ⌜ Entered (windowMoment t) at entries (now (table .entry)) (now (table .exit)) ⌝ }
 {
     let base = t.secs - REACH;
     let nanos = t.nanos;
@@ -55,7 +55,7 @@ fn fill_window(table: &mut [f64], at: usize, t: Instant)
 // The samples' moments, into the entries from `at` on.
 fn fill_samples(table: &mut [f64], at: usize, times: &[i64])
     requires { ⌜ Timed (now times) × (2 * (at + length (now times)) ≤ length (now table)) ⌝ }
-    ensures { λ _. ⌜ Written (moments (now (times .entry))) at (length (now (times .entry))) (now (table .entry)) (now (table .exit)) ⌝ }
+    ensures { λ _. ⌜ Entered (moments (now (times .entry))) at (length (now (times .entry))) (now (table .entry)) (now (table .exit)) ⌝ }
 {
     for k in 0..times.len() {
         put_turn(table, at + k, crate::pca::moment_at(times, k));
@@ -64,7 +64,7 @@ fn fill_samples(table: &mut [f64], at: usize, times: &[i64])
 
 // The window of one pass, around its sample closest to the centre; an empty pass has none.
 fn fill_pass(table: &mut [f64], at: usize, center: f64, times: &[i64], freqs: &[f64])
-    requires { ⌜ Samples (now times) (now freqs) × (at ≤ 100000) × (2 * (at + entries) ≤ length (now table)) ⌝ }
+    requires { ⌜ PassSamples (now times) (now freqs) × (at ≤ 100000) × (2 * (at + entries) ≤ length (now table)) ⌝ }
     ensures { λ _. ⌜ PassWritten at center (now (times .entry)) (now (freqs .entry)) (now (table .entry)) (now (table .exit)) ⌝ }
 {
     if freqs.len() == 0 {
@@ -75,7 +75,7 @@ fn fill_pass(table: &mut [f64], at: usize, center: f64, times: &[i64], freqs: &[
 
 // The table of a pass set: 1,245 entries a pass and one a sample, of two numbers each.
 pub fn fill(counts: &[u32], times: &[i64], freqs: &[f64], centers: &[f64], table: &mut [f64])
-    requires { ⌜ PassSet (now counts) (now times) (now freqs) (now centers) × (2 * (entries * length (now counts) + length (now times)) ≤ length (now table)) ⌝ }
+    requires { ⌜ SoundSet (now counts) (now times) (now freqs) (now centers) × (2 * (entries * length (now counts) + length (now times)) ≤ length (now table)) ⌝ }
     ensures { λ _. ⌜ SetWritten (now (counts .entry)) (now (times .entry)) (now (freqs .entry)) (now (centers .entry)) (now (table .entry)) (now (table .exit)) ⌝ }
 {
     if counts.len() == 0 {

@@ -33,7 +33,7 @@ use Rattle.arguments.specs.Refusals.{
   inputRefusals,
   inputRefusalOf,
   Guess,
-  Accepted,
+  InputAccepted,
   Roomy,
 }
 
@@ -172,7 +172,7 @@ then-rest false false false false false false true rest n h = rw h
 then-rest false false false false false false false rest n h = rw h
 
 module _ (counts : List ℕ) (times : List ℤ) (freqs centers : List Float) (rec : Vec3) (a i : Float) where
-  pub accepted : inputRefusalOf counts times freqs centers rec a i ≡ 0 → Accepted counts times freqs centers rec a i
+  pub accepted : inputRefusalOf counts times freqs centers rec a i ≡ 0 → InputAccepted counts times freqs centers rec a i
   unfolding inputRefusalOf
   accepted h =
       let s =

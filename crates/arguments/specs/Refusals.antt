@@ -94,7 +94,7 @@ pub record Guess (rec : Vec3) (a i : Float) : Type 0 where
   pub i-low : lt i (bits 0) ≡ false
   pub i-high : lt pi i ≡ false
 
-pub record Accepted (counts : List ℕ) (times : List ℤ) (freqs centers : List Float) (rec : Vec3) (a i : Float) : Type 0 where
+pub record InputAccepted (counts : List ℕ) (times : List ℤ) (freqs centers : List Float) (rec : Vec3) (a i : Float) : Type 0 where
   pub sizes : Sizes counts (length times) (length freqs) (length centers)
   pub timed : Timed times
   pub guess : Guess rec a i

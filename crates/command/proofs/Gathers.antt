@@ -15,7 +15,7 @@ use Rattle.passes.specs.File.{zeros, scanned, timesOf, freqsOf, Reads}
 use Rattle.passes.specs.File as File
 use Rattle.passes.specs.declared.file.PassFile.{PassFile}
 use Rattle.passes.proofs.Files.{counted}
-use Rattle.command.specs.Gather.{isFull, refusalOf, answer, Kept, Adds}
+use Rattle.command.specs.Gather.{isFull, gatherRefusal, fileAnswer, SameArrays, Adds}
 
 -- ---- the file's refusal
 
@@ -123,7 +123,7 @@ module _ (file : List ℕ) (s : ℕ) (times : List ℤ) (freqs : List Float) whe
   abbrev number : ℕ
   number = File.passFileRefusal (scanned file) (length times - s) (length freqs - s)
 
-  whole : {q : PassFile} {t : List ℤ} {f : List Float} → Reads file (part s times) t (part s freqs) f q → q ≡ answer number file
+  whole : {q : PassFile} {t : List ℤ} {f : List Float} → Reads file (part s times) t (part s freqs) f q → q ≡ fileAnswer number file
   unfolding File.answer
   whole {q = q} r = subst (λ (n : ℕ). q ≡ File.answer file n (length freqs - s)) (part-length s times)
       (subst (λ (n : ℕ). q ≡ File.answer file (length (part s times)) n) (part-length s freqs) (r .says))
@@ -136,7 +136,7 @@ module _ (file : List ℕ) (s : ℕ) (times : List ℤ) (freqs : List Float) whe
   accepted g k = accepts (scanned file) (length times - s) (length freqs - s) (sym (numbered g) ∙ k)
 
   pub same-file : {q : PassFile} {t : List ℤ} {f : List Float} → Reads file (part s times) t (part s freqs) f q → q .refusal ≡ 0 → q ≡ scanned file
-  same-file g k = whole g ∙ ap (λ (n : ℕ). answer n file) (sym (numbered g) ∙ k)
+  same-file g k = whole g ∙ ap (λ (n : ℕ). fileAnswer n file) (sym (numbered g) ∙ k)
 
   pub few-samples : {q : PassFile} {t : List ℤ} {f : List Float} → Reads file (part s times) t (part s freqs) f q → q .refusal ≡ 0 → q .count ≤ 4096
   few-samples g k = subst (λ (q : PassFile). q .count ≤ 4096) (sym (same-file g k)) (accepted g k .few)
@@ -144,7 +144,7 @@ module _ (file : List ℕ) (s : ℕ) (times : List ℤ) (freqs : List Float) whe
 module _ (file : List ℕ) (p s : ℕ) (counts : List ℕ) (times : List ℤ) (freqs centers : List Float) where
   none-left : {r : PassFile} → isFull p s (length counts) (length times) (length freqs) (length centers) ≡ true → r ≡ zeros 5
       → Adds file p s counts counts times times freqs freqs centers centers r
-  unfolding zeros refusalOf
+  unfolding zeros gatherRefusal
   none-left {r = r} f e =
       record {
         says = e ∙ simp f;
@@ -167,7 +167,7 @@ module _ (file : List ℕ) (p s : ℕ) (counts : List ℕ) (times : List ℤ) (f
 
   -- a refused file leaves the parts as they were, and so the arrays
   left : {q : PassFile} {t : List ℤ} {f : List Float} → (q .refusal ≡ 0 → ⊥) → Reads file (part s times) t (part s freqs) f q
-      → Kept counts counts times (back s times t) freqs (back s freqs f) centers centers
+      → SameArrays counts counts times (back s times t) freqs (back s freqs f) centers centers
   left {q = q} {t = t} {f = f} h r =
       let z : eqb (q .refusal) 0 ≡ false = ne-eqb (q .refusal) 0 h in
       record {
@@ -183,7 +183,7 @@ module _ (file : List ℕ) (p s : ℕ) (counts : List ℕ) (times : List ℤ) (f
 
     pub no-room : {q r : PassFile} {t : List ℤ} {f : List Float} → Reads file (part s times) t (part s freqs) f q → q .refusal ≡ 21 → r ≡ zeros 5
         → Adds file p s counts counts times (back s times t) freqs (back s freqs f) centers centers r
-    unfolding zeros refusalOf
+    unfolding zeros gatherRefusal
     no-room {q = q} {r = r} g k z =
         record {
           says = z ∙ simp (open-room, sym (numbered file s times freqs g) ∙ k);
@@ -192,15 +192,15 @@ module _ (file : List ℕ) (p s : ℕ) (counts : List ℕ) (times : List ℤ) (f
         }
 
     roomy : {n : ℕ} → (n ≡ 21 → ⊥) → File.passFileRefusal (scanned file) (length times - s) (length freqs - s) ≡ n
-        → refusalOf (isFull p s (length counts) (length times) (length freqs) (length centers)) file (length times - s) (length freqs - s) ≡ n
-    unfolding refusalOf
+        → gatherRefusal (isFull p s (length counts) (length times) (length freqs) (length centers)) file (length times - s) (length freqs - s) ≡ n
+    unfolding gatherRefusal
     roomy {n} h k = simp (open-room, k, ne-eqb n 21 h)
 
     pub refused-file : {q : PassFile} {t : List ℤ} {f : List Float} → Reads file (part s times) t (part s freqs) f q → (q .refusal ≡ 21 → ⊥) → (q .refusal ≡ 0 → ⊥)
         → Adds file p s counts counts times (back s times t) freqs (back s freqs f) centers centers q
     refused-file {q = q} g h k =
         record {
-          says = whole file s times freqs g ∙ ap (λ (n : ℕ). answer n file) (sym (roomy (λ (w : number file s times freqs ≡ 21). h (numbered file s times freqs g ∙ w)) refl));
+          says = whole file s times freqs g ∙ ap (λ (n : ℕ). fileAnswer n file) (sym (roomy (λ (w : number file s times freqs ≡ 21). h (numbered file s times freqs g ∙ w)) refl));
           appended = λ (y : q .refusal ≡ 0). absurd (k y);
           kept = λ (y : 0 < q .refusal). left k g;
         }
@@ -213,7 +213,7 @@ module _ (file : List ℕ) (p s : ℕ) (counts : List ℕ) (times : List ℤ) (f
         let n = counted file refl (y .good) in
         let z : eqb (q .refusal) 0 ≡ true = eq-eqb (q .refusal) 0 k in
         record {
-          says = whole file s times freqs g ∙ ap (λ (n : ℕ). answer n file) (sym (roomy (λ (w : number file s times freqs ≡ 21). omega (arith, w, numbered file s times freqs g, k)) refl));
+          says = whole file s times freqs g ∙ ap (λ (n : ℕ). fileAnswer n file) (sym (roomy (λ (w : number file s times freqs ≡ 21). omega (arith, w, numbered file s times freqs g, k)) refl));
           appended = λ (_ : q .refusal ≡ 0).
               record {
                 counted = put-one p counts (q .count) a ∙ ap (λ (v : PassFile). take p counts ++ (v .count ∷ [])) x;

@@ -18,7 +18,7 @@ use Rattle.moment.specs.Sample.{timeInRange, momentAt}
 use Rattle.moment.specs.declared.Moment.{Moment}
 use Rattle.frame.specs.declared.Vec3.{Vec3}
 use Rattle.solution.specs.declared.SolvedOrbit.{SolvedOrbit}
-use Rattle.command.specs.Report.{noMoment, momentIn, sampleMoment, biasesAt, passOf, squaresOf, walkPass, withPass, opening, meanRoot, rmsOf, noBiases, biasesOf}
+use Rattle.command.specs.Report.{noMoment, momentIn, sampleMoment, biasesAt, passOf, squaresOf, walkPass, withPass, openWalk, meanRoot, rmsOf, noBiases, biasesOf}
 use Rattle.command.specs.declared.report.Biases.{Biases}
 use Rattle.command.specs.declared.report.Fitted.{Fitted}
 use Rattle.command.specs.declared.report.Walk.{Walk}
@@ -67,17 +67,17 @@ module _ (counts : List ℕ) (times : List ℤ) (freqs centers : List Float) (re
 
   whole : length counts ≤ 16 → length centers ≡ length counts
       → rmsOf counts times freqs centers rec orbit dts dfs df1s df2s
-      ≡ meanRoot (for 0 (length counts) (withPass times freqs (record { orbit = orbit; «center_freq» = centerOf counts centers; «rec_ecef» = rec }) counts dts dfs df1s df2s) opening)
+      ≡ meanRoot (for 0 (length counts) (withPass times freqs (record { orbit = orbit; «center_freq» = centerOf counts centers; «rec_ecef» = rec }) counts dts dfs df1s df2s) openWalk)
   unfolding rmsOf
   whole h k = simp (le-ltb 16 (length counts) h, eq-eqb (length centers) (length counts) k)
 
   pub mean : {center n r : Float} {w : Walk} → length counts ≤ 16 → length centers ≡ length counts → center ≡ centerOf counts centers
-      → w ≡ for 0 (length counts) (withPass times freqs (record { orbit = orbit; «center_freq» = center; «rec_ecef» = rec }) counts dts dfs df1s df2s) opening
+      → w ≡ for 0 (length counts) (withPass times freqs (record { orbit = orbit; «center_freq» = center; «rec_ecef» = rec }) counts dts dfs df1s df2s) openWalk
       → n ≡ ofInt binary64 (pos (w .at)) → r ≡ sqrtOf (w .sum ⊘ n) → r ≡ rmsOf counts times freqs centers rec orbit dts dfs df1s df2s
   mean {w = w} h k c e s g =
       g ∙ ap (λ (m : Float). sqrtOf (w .sum ⊘ m)) s ∙ ap meanRoot e
       ∙ ap
-      (λ (v : Float). meanRoot (for 0 (length counts) (withPass times freqs (record { orbit = orbit; «center_freq» = v; «rec_ecef» = rec }) counts dts dfs df1s df2s) opening))
+      (λ (v : Float). meanRoot (for 0 (length counts) (withPass times freqs (record { orbit = orbit; «center_freq» = v; «rec_ecef» = rec }) counts dts dfs df1s df2s) openWalk))
       c
       ∙ sym (whole h k)
 

@@ -21,7 +21,7 @@ use Rattle.ordering.proofs.Picks.{pick-last}
 use Rattle.passes.specs.File.{scanned, zeros, nameOf}
 use Rattle.passes.specs.File as File
 use Rattle.passes.specs.declared.file.PassFile.{PassFile}
-use Rattle.command.specs.Gather.{countIn, centerIn, timesIn, freqsIn, keyIn, hasName, namer, nameFrom, keyFrom, unknown, arrays, Arrays, First, Holds, isFull, refusalOf, roomless, answer, Adds, isNew, Keeps, Opens, stoppedBy, Extends, Gathers, Continues}
+use Rattle.command.specs.Gather.{countIn, centerIn, timesIn, freqsIn, keyIn, hasName, namer, nameFrom, keyFrom, unknown, arrays, Arrays, First, Holds, isFull, gatherRefusal, roomless, fileAnswer, Adds, isNew, Keeps, Opens, stoppedBy, Extends, Gathers, Continues}
 use Rattle.command.specs.declared.gather.Name.{Name}
 use Rattle.command.specs.declared.gather.Gathered.{Gathered}
 use Rattle.command.proofs.Gathers.{test-zero, accepts}
@@ -99,13 +99,13 @@ positive zero h = absurd (h refl)
 positive (suc n) h = omega arith
 
 module _ (file : List ℕ) where
-  good : (full : Bool) (nt nf : ℕ) → refusalOf full file nt nf ≡ 0 → scanned file .refusal ≡ 0
-  unfolding refusalOf
+  good : (full : Bool) (nt nf : ℕ) → gatherRefusal full file nt nf ≡ 0 → scanned file .refusal ≡ 0
+  unfolding gatherRefusal
   good full nt nf e =
       let k : ℕ = File.passFileRefusal (scanned file) nt nf in
       accepts (scanned file) nt nf (test-zero (eqb k 21) 4 k (test-zero full 4 (roomless k) e .1) .1) .good
 
-  numbered : (k : ℕ) {q : PassFile} → (k ≡ 0 → scanned file .refusal ≡ 0) → q ≡ answer k file → q .refusal ≡ k
+  numbered : (k : ℕ) {q : PassFile} → (k ≡ 0 → scanned file .refusal ≡ 0) → q ≡ fileAnswer k file → q .refusal ≡ k
   unfolding zeros
   numbered zero h e = ap (λ (q : PassFile). q .refusal) e ∙ h refl
   numbered (suc k) h e = ap (λ (q : PassFile). q .refusal) e ∙ simp (ne-eqb (suc k) 0 (λ (z : suc k ≡ 0). omega arith))
@@ -121,7 +121,7 @@ one-more e f = omega (arith, e, f)
 
 module _ (file : List ℕ) (g : Gathered) (counts counts′ : List ℕ) (times times′ : List ℤ) (freqs freqs′ centers centers′ : List Float) (name : List ℕ) {q : PassFile}
     (h : Adds file (g .passes) (g .samples) counts counts′ times times′ freqs freqs′ centers centers′ q) where
-  number : q .refusal ≡ refusalOf (isFull (g .passes) (g .samples) (length counts) (length times) (length freqs) (length centers)) file (length times - g .samples) (length freqs - g .samples)
+  number : q .refusal ≡ gatherRefusal (isFull (g .passes) (g .samples) (length counts) (length times) (length freqs) (length centers)) file (length times - g .samples) (length freqs - g .samples)
   number = numbered file _ (good file _ _ _) (h .says)
 
   pub add-none : (q .refusal ≡ 0 → ⊥) → {r : Gathered} → r ≡ stoppedBy (q .refusal) g → Extends file g (arrays counts times freqs centers name) (arrays counts′ times′ freqs′ centers′ name) r
@@ -138,7 +138,7 @@ module _ (file : List ℕ) (g : Gathered) (counts counts′ : List ℕ) (times t
 
   module _ (z : q .refusal ≡ 0) where
     read : q ≡ scanned file
-    read = subst (λ (k : ℕ). q ≡ answer k file) (sym number ∙ z) (h .says)
+    read = subst (λ (k : ℕ). q ≡ fileAnswer k file) (sym number ∙ z) (h .says)
 
     pub pass-room : g .passes < length counts
     pass-room = h .appended z .counts-room

@@ -101,12 +101,12 @@ isFull p s counts times freqs centers = leb counts p || (leb centers p || (ltb t
 abbrev pub roomless : ℕ → ℕ
 roomless k = cond (eqb k refusal.short-memory) refusal.sizes k
 
-unfoldable pub refusalOf : Bool → List ℕ → ℕ → ℕ → ℕ
-refusalOf full file nt nf = cond full refusal.sizes (roomless (File.passFileRefusal (scanned file) nt nf))
+unfoldable pub gatherRefusal : Bool → List ℕ → ℕ → ℕ → ℕ
+gatherRefusal full file nt nf = cond full refusal.sizes (roomless (File.passFileRefusal (scanned file) nt nf))
 
 -- what the file says, or zeros with the refusal's number k
-abbrev pub answer : ℕ → List ℕ → PassFile
-answer k file = cond (eqb k 0) (scanned file) (zeros k)
+abbrev pub fileAnswer : ℕ → List ℕ → PassFile
+fileAnswer k file = cond (eqb k 0) (scanned file) (zeros k)
 
 -- an accepted file is appended to the p passes and s samples that stand in the arrays
 pub record Appended (file : List ℕ) (p s : ℕ) (counts counts′ : List ℕ) (times times′ : List ℤ) (freqs freqs′ centers centers′ : List Float) : Type 0 where
@@ -120,16 +120,16 @@ pub record Appended (file : List ℕ) (p s : ℕ) (counts counts′ : List ℕ) 
   pub freqs-room : s + countIn file ≤ length freqs
 
 -- a refused one leaves them as they were
-pub record Kept (counts counts′ : List ℕ) (times times′ : List ℤ) (freqs freqs′ centers centers′ : List Float) : Type 0 where
+pub record SameArrays (counts counts′ : List ℕ) (times times′ : List ℤ) (freqs freqs′ centers centers′ : List Float) : Type 0 where
   pub same-counts : counts′ ≡ counts
   pub same-times : times′ ≡ times
   pub same-freqs : freqs′ ≡ freqs
   pub same-centers : centers′ ≡ centers
 
 pub record Adds (file : List ℕ) (p s : ℕ) (counts counts′ : List ℕ) (times times′ : List ℤ) (freqs freqs′ centers centers′ : List Float) (r : PassFile) : Type 0 where
-  pub says : r ≡ answer (refusalOf (isFull p s (length counts) (length times) (length freqs) (length centers)) file (length times - s) (length freqs - s)) file
+  pub says : r ≡ fileAnswer (gatherRefusal (isFull p s (length counts) (length times) (length freqs) (length centers)) file (length times - s) (length freqs - s)) file
   pub appended : r .refusal ≡ 0 → Appended file p s counts counts′ times times′ freqs freqs′ centers centers′
-  pub kept : 0 < r .refusal → Kept counts counts′ times times′ freqs freqs′ centers centers′
+  pub kept : 0 < r .refusal → SameArrays counts counts′ times times′ freqs freqs′ centers centers′
 
 -- ---- its name
 
@@ -157,7 +157,7 @@ stoppedBy k g = record { failed = true; refusal = k; passes = g .passes; samples
 
 -- What `add` promises: a refused file leaves all as it was, and an accepted one is appended to whatever files the set is of.
 pub record Extends (file : List ℕ) (g : Gathered) (a a′ : Arrays) (r : Gathered) : Type 0 where
-  pub says : r .refusal ≡ refusalOf (isFull (g .passes) (g .samples) (length (a .counts)) (length (a .times)) (length (a .freqs)) (length (a .centers))) file (length (a .times) - g .samples) (length (a .freqs) - g .samples)
+  pub says : r .refusal ≡ gatherRefusal (isFull (g .passes) (g .samples) (length (a .counts)) (length (a .times)) (length (a .freqs)) (length (a .centers))) file (length (a .times) - g .samples) (length (a .freqs) - g .samples)
   pub stopped : 0 < r .refusal → r ≡ stoppedBy (r .refusal) g
   pub kept : 0 < r .refusal → a′ ≡ a
   pub going : r .refusal ≡ 0 → r .failed ≡ false

@@ -12,9 +12,7 @@ use Rattle.loops.specs.Loop.{for}
 use Rattle.moment.specs.Sample.{timeInRange, momentAt}
 use Rattle.moment.specs.declared.Moment.{Moment}
 use Rattle.frame.specs.declared.Vec3.{Vec3}
-use Rattle.orbit.specs.Doppler.{predictFrequencyPolyOf}
-use Rattle.orbit.specs.declared.doppler.Prediction.{Prediction}
-use Rattle.orbit.specs.declared.doppler.Prediction.the-variants.{Frequency, Refused}
+use Rattle.orbit.specs.Doppler.{predictFrequencyPolyOf, frequencyOf}
 use Rattle.arguments.specs.Passes.{nonEmpty, centerOf}
 use Rattle.solution.specs.declared.SolvedOrbit.{SolvedOrbit}
 use Rattle.command.specs.declared.report.Biases.{Biases}
@@ -33,10 +31,6 @@ momentIn t = cond (timeInRange t) (momentAt t) noMoment
 -- sample k's
 unfoldable pub sampleMoment : List ℤ → ℕ → Moment
 sampleMoment times k = cond (ltb k (length times)) (momentIn (getD times k (pos 0))) noMoment
-
-abbrev pub frequencyOf : Prediction → Float
-frequencyOf (Frequency v) = v
-frequencyOf (Refused k) = nan
 
 -- a sample's frequency less centre and predicted shift
 unfoldable pub residualOf : Fitted → Pass → Moment → Float → Float
@@ -70,8 +64,8 @@ module _ (times : List ℤ) (freqs : List Float) (g : Fitted) where
   withPass counts dts dfs df1s df2s p w = walkPass (biasesAt dts dfs df1s df2s (w .passes)) (getD counts p 0) w
 
 -- before the first pass
-abbrev pub opening : Walk
-opening = record { sum = bits 0; at = 0; passes = 0 }
+abbrev pub openWalk : Walk
+openWalk = record { sum = bits 0; at = 0; passes = 0 }
 
 -- the root of the squares' mean
 abbrev pub meanRoot : Walk → Float
@@ -81,7 +75,7 @@ meanRoot w = sqrtOf (w .sum ⊘ ofInt binary64 (pos (w .at)))
 unfoldable pub rmsOf : (counts : List ℕ) (times : List ℤ) (freqs centers : List Float) (rec : Vec3) (orbit : SolvedOrbit) (dts dfs df1s df2s : List Float) → Float
 rmsOf counts times freqs centers rec orbit dts dfs df1s df2s =
     cond (ltb 16 (length counts) || not (eqb (length centers) (length counts))) nan
-    (meanRoot (for 0 (length counts) (withPass times freqs (record { orbit = orbit; «center_freq» = centerOf counts centers; «rec_ecef» = rec }) counts dts dfs df1s df2s) opening))
+    (meanRoot (for 0 (length counts) (withPass times freqs (record { orbit = orbit; «center_freq» = centerOf counts centers; «rec_ecef» = rec }) counts dts dfs df1s df2s) openWalk))
 
 -- Pass p's biases: an empty pass has none, so they stand behind those of the non-empty passes before it.
 abbrev pub noBiases : Biases

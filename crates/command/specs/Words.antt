@@ -37,34 +37,34 @@ unfolding farthest ofBits round
 farthest-bits = refl
 
 -- how far from the Earth's centre a mast is not on the ground, by its Earth-fixed metres
-abbrev pub distanceOf : Vec3 → Float
-distanceOf v = sqrtOf ((v .x ⊗ v .x ⊕ v .y ⊗ v .y) ⊕ v .z ⊗ v .z)
+abbrev pub centreDistance : Vec3 → Float
+centreDistance v = sqrtOf ((v .x ⊗ v .x ⊕ v .y ⊗ v .y) ⊕ v .z ⊗ v .z)
 
 unfoldable pub offGround : Vec3 → Bool
-offGround v = lt (distanceOf v) nearest || lt farthest (distanceOf v)
+offGround v = lt (centreDistance v) nearest || lt farthest (centreDistance v)
 
 -- the program's name and four numbers, then 1 to 16 files
 unfoldable pub filesOf : ℕ → Files
 filesOf n = cond (ltb n 6) TooFew (cond (ltb 21 n) TooMany (Named (n - 5)))
 
 -- what follows from word k, if it is a number
-abbrev pub taken : ℕ → Number → (Float → Mast) → Mast
-taken k Nothing next = NoNumber k
-taken k (Value v) next = next v
-taken k Refused next = LongNumber k
+abbrev pub ifNumber : ℕ → Number → (Float → Mast) → Mast
+ifNumber k Nothing next = NoNumber k
+ifNumber k (Value v) next = next v
+ifNumber k Refused next = LongNumber k
 
 -- the inclination is in degrees
 abbrev pub inclinationOf : Float → Float → Float → Number → Mast
-inclinationOf x y z i = taken 4 i (λ v. At (record { x = x; y = y; z = z }) (radiansOf v))
+inclinationOf x y z i = ifNumber 4 i (λ v. At (record { x = x; y = y; z = z }) (radiansOf v))
 
 abbrev pub zOf : Float → Float → Number → Number → Mast
-zOf x y z i = taken 3 z (λ v. inclinationOf x y v i)
+zOf x y z i = ifNumber 3 z (λ v. inclinationOf x y v i)
 
 abbrev pub yOf : Float → Number → Number → Number → Mast
-yOf x y z i = taken 2 y (λ v. zOf x v z i)
+yOf x y z i = ifNumber 2 y (λ v. zOf x v z i)
 
 abbrev pub xOf : Number → Number → Number → Number → Mast
-xOf x y z i = taken 1 x (λ v. yOf v y z i)
+xOf x y z i = ifNumber 1 x (λ v. yOf v y z i)
 
 -- of four words; the first that is wrong answers
 unfoldable pub mastOf : List ℕ → List ℕ → List ℕ → List ℕ → Mast

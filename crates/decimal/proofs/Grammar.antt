@@ -14,7 +14,7 @@ use borrow.Author.Tests.{eq-eqb, ne-eqb, eqb-true, eqb-false, le-leb, lt-leb, le
 use Rattle.laws.proofs.Lists.{here}
 use Rattle.text.specs.Text.{bytes}
 use Rattle.decimal.specs.Read.{isDigit, digitRun, withDigits, lower, spells, name, sized, exponentAt, exponent, ended, unsigned, number}
-use Rattle.decimal.specs.Grammar.{Digits, no-digit, digit, Sign, no-sign, plus, minus, Mantissa, whole, point-last, point-first, Exp, no-exp, exp, numeral, limited, Body, is-inf, is-infinity, is-nan, is-number, Written, written}
+use Rattle.decimal.specs.Grammar.{Digits, no-digit, digit, Sign, no-sign, plus, minus, Mantissa, whole, point-last, point-first, Exp, no-exp, exp, numeralValue, limited, Body, is-inf, is-infinity, is-nan, is-number, Written, written}
 use Rattle.decimal.specs.declared.read.Number.{Number}
 use Rattle.decimal.specs.declared.read.Number.the-variants.{Nothing, Value, Refused}
 use Rattle.decimal.proofs.Scan.{present, spells-length}
@@ -55,14 +55,14 @@ digits-run r (digit e d) s = simp e (ap suc (digits-run r d s))
 
 -- ---- the number that digits write
 
-pub value-numeral : (a n : ℕ) (l : List ℕ) → withDigits a n l ≡ numeral a (take n l)
-unfolding withDigits numeral
+pub value-numeral : (a n : ℕ) (l : List ℕ) → withDigits a n l ≡ numeralValue a (take n l)
+unfolding withDigits numeralValue
 value-numeral a zero l = refl
 value-numeral a (suc n) [] = refl
 value-numeral a (suc n) (c ∷ l) = value-numeral (a * 10 + (c - 48)) n l
 
-numeral-join : (a : ℕ) (x y : List ℕ) → numeral (numeral a x) y ≡ numeral a (x ++ y)
-unfolding numeral
+numeral-join : (a : ℕ) (x y : List ℕ) → numeralValue (numeralValue a x) y ≡ numeralValue a (x ++ y)
+unfolding numeralValue
 numeral-join a [] y = refl
 numeral-join a (c ∷ x) y = numeral-join (a * 10 + (c - 48)) x y
 
@@ -71,9 +71,9 @@ sized-limited : (s : Bool) (l : List ℕ) (w p : ℕ) (en : Bool) (x n : ℕ) (d
     → sized s l w p en x n ≡ limited s ds p en es
 unfolding sized limited
 sized-limited s l w p en x n ds es f g h k =
-    let d : withDigits (withDigits 0 w l) p (drop (w + 1) l) ≡ numeral 0 ds =
-    value-numeral (withDigits 0 w l) p (drop (w + 1) l) ∙ ap (λ (a : ℕ). numeral a (take p (drop (w + 1) l))) (value-numeral 0 w l) ∙ numeral-join 0 (take w l) (take p (drop (w + 1) l)) ∙ ap (numeral 0) f in
-    let e : withDigits 0 n (drop x l) ≡ numeral 0 es = value-numeral 0 n (drop x l) ∙ ap (numeral 0) h in
+    let d : withDigits (withDigits 0 w l) p (drop (w + 1) l) ≡ numeralValue 0 ds =
+    value-numeral (withDigits 0 w l) p (drop (w + 1) l) ∙ ap (λ (a : ℕ). numeralValue a (take p (drop (w + 1) l))) (value-numeral 0 w l) ∙ numeral-join 0 (take w l) (take p (drop (w + 1) l)) ∙ ap (numeralValue 0) f in
+    let e : withDigits 0 n (drop x l) ≡ numeralValue 0 es = value-numeral 0 n (drop x l) ∙ ap (numeralValue 0) h in
     (λ i. cond (ltb 19 (g i)) Refused (cond (ltb 2 (k i)) Refused (cond (ltb 30 (e i)) Refused (Value (round binary64 s (d i * 10 ^ cond en 0 (e i)) (10 ^ (p + cond en (e i) 0)))))))
 
 -- ---- from the scanner to the grammar

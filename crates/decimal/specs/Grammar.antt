@@ -40,15 +40,15 @@ pub data Exp : List ℕ → Bool → List ℕ → Type 0 where
   exp : (e : ℕ) (s : List ℕ) (n : Bool) (ds : List ℕ) → lower e ≡ code "e" → Sign s n → Digits ds → 0 < length ds → Exp (e ∷ (s ++ ds)) n ds
 
 -- the number that digits write, behind a
-unfoldable pub numeral : ℕ → List ℕ → ℕ
-numeral a [] = a
-numeral a (c ∷ l) = numeral (a * 10 + (c - code "0")) l
+unfoldable pub numeralValue : ℕ → List ℕ → ℕ
+numeralValue a [] = a
+numeralValue a (c ∷ l) = numeralValue (a * 10 + (c - code "0")) l
 
 -- What a number comes to: refused by document 01's limits (over 19 digits, an exponent of over two digits or beyond 30), else the nearest float.
 unfoldable pub limited : Bool → List ℕ → ℕ → Bool → List ℕ → Number
 limited n ds p en es =
-    let d = numeral 0 ds in
-    let e = numeral 0 es in
+    let d = numeralValue 0 ds in
+    let e = numeralValue 0 es in
     cond (ltb 19 (length ds)) Refused
     (cond (ltb 2 (length es)) Refused
     (cond (ltb 30 e) Refused (Value (round binary64 n (d * 10 ^ cond en 0 e) (10 ^ (p + cond en e 0))))))

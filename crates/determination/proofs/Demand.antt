@@ -30,7 +30,7 @@ use Rattle.fit.specs.Answer.{
   Arguments,
   observations,
   passCount,
-  firstOf,
+  firstBookOf,
   bookOf,
   farEnding,
   biases,
@@ -80,7 +80,7 @@ low-sum false false false true o h = absurd (omega (arith, h))
 low-sum false false false false o h = refl
 
 record Passed (x : Arguments) : Type 0 where
-  given : given.Accepted (x .counts) (x .times) (x .freqs) (x .centers) (x .rec) (x .a) (x .i)
+  given : given.InputAccepted (x .counts) (x .times) (x .freqs) (x .centers) (x .rec) (x .a) (x .i)
   low : lt largestSum (bookOf x .search .best) ≡ false
 
 passed : (x : Arguments) (room : Room) → fitRefusal x room ≡ 0 → Passed x
@@ -89,11 +89,11 @@ passed x room e =
     let p = passCount x in
     let b = bookOf x in
     let n = inputRefusalOf (x .counts) (x .times) (x .freqs) (x .centers) (x .rec) (x .a) (x .i) in
-    let rest = (refusal.short-memory if not (enough (length (x .times)) p room)) ∷ workRefusals (firstOf x) b p in
+    let rest = (refusal.short-memory if not (enough (length (x .times)) p room)) ∷ workRefusals (firstBookOf x) b p in
     let h = both-zero n (first rest) (arguments.then (x .counts) (x .times) (x .freqs) (x .centers) (x .rec) (x .a) (x .i) n rest refl ∙ e) in
     record {
       given = arguments.accepted (x .counts) (x .times) (x .freqs) (x .centers) (x .rec) (x .a) (x .i) (h .0);
-      low = low-sum (not (enough (length (x .times)) p room)) (farEnding (firstOf x .ended)) (farEnding (b .ended)) (lt largestSum (b .search .best))
+      low = low-sum (not (enough (length (x .times)) p room)) (farEnding (firstBookOf x .ended)) (farEnding (b .ended)) (lt largestSum (b .search .best))
           (anyLarge (biases 1 (b .search .bestSet) p)) (h .1);
     }
 

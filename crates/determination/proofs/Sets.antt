@@ -17,7 +17,7 @@ use Rattle.residuals.specs.Residuals.{
   elementsOf,
   placeOf,
   dtOf,
-  biasesOf,
+  passBias,
   residual,
   samples,
   passes,
@@ -66,8 +66,8 @@ module _ (n : ℕ) (x y : List Float) (s : Agree n x y) where
   unfolding dtOf placeOf
   dt-same p h = s .each (4 + 4 * p) (omega arith)
 
-  biases-same : (p : ℕ) → p < n → biasesOf true x p ≡ biasesOf true y p
-  unfolding biasesOf
+  biases-same : (p : ℕ) → p < n → passBias true x p ≡ passBias true y p
+  unfolding passBias
   biases-same p h =
       let b = s .each (4 + 4 * p + 1) (omega arith) in
       let c = s .each (4 + 4 * p + 2) (omega arith) in

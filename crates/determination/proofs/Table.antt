@@ -13,9 +13,9 @@ use Rattle.pass_set.specs.PassSet.{total, sizesAgree}
 use Rattle.linear.specs.Elimination.{leastPivot, largerPivot, pivotRow, swapEntries, swapRows, eliminateEntry, eliminateRow, eliminateBelow, reduceColumn, forwardElimination, addTerm, substituteRow, backSubstitution, augmentEntry, augmentRow, augmented, solutionOf}
 use Rattle.linear.specs.Answer as linear
 use Rattle.monna.specs.Rng.{drawOf}
-use Rattle.monna.specs.Digits.{monnaOf, inverseOf, distanceOf, digits, placed, taken, clampOf, margin, times, valuation}
+use Rattle.monna.specs.Digits.{monnaOf, inverseOf, distanceOf, digits, placed, digitsAdded, clampOf, margin, times, valuation}
 use Rattle.monna.specs.Answers.{baseRefusal, digitsRefusal, monnaMapOf, pAdicDistanceOf, inverseMonnaMapOf}
-use Rattle.monna.specs.History.{differencesOf, differenceAt, cellOf, quotientOf, leastDistance, table}
+use Rattle.monna.specs.History.{differencesOf, differenceAt, withQuotient, quotientOf, leastDistance, tabulated}
 use Rattle.arguments.specs.Passes.{nonEmpty}
 use Rattle.float.specs.Trig.{pi}
 use Rattle.arguments.specs.Refusals.{leastA, mostA, nanArgument, outOfRange, anyNan, scratchSize, enough}
@@ -25,5 +25,5 @@ use Rattle.determination.specs.Table as document
 use Rattle.determination.specs.Table.{Hold}
 
 pub holds : Hold document.table
-unfolding document.table neg ofBits round ofInt toUnsigned add sub mul div lt eq isNan for turns rev try tried sqrtOf absOf one two floorOf secondsOf unitsBetween inRange timeInRange timesInRange shifted leap monthLength tomorrowIn dateOf jdOf julianOf dayFraction jdAt datetimeToJdOf total sizesAgree leastPivot largerPivot pivotRow swapEntries swapRows eliminateEntry eliminateRow eliminateBelow reduceColumn forwardElimination addTerm substituteRow backSubstitution augmentEntry augmentRow augmented solutionOf linear.refusalOf drawOf monnaOf inverseOf distanceOf digits placed taken clampOf margin times valuation raised baseRefusal digitsRefusal monnaMapOf pAdicDistanceOf inverseMonnaMapOf differencesOf differenceAt cellOf quotientOf leastDistance table nonEmpty leastA mostA pi nanArgument outOfRange anyNan scratchSize enough fitRefusal weightSum checksumOf
+unfolding document.table neg ofBits round ofInt toUnsigned add sub mul div lt eq isNan for turns rev try tried sqrtOf absOf one two floorOf secondsOf unitsBetween inRange timeInRange timesInRange shifted leap monthLength tomorrowIn dateOf jdOf julianOf dayFraction jdAt datetimeToJdOf total sizesAgree leastPivot largerPivot pivotRow swapEntries swapRows eliminateEntry eliminateRow eliminateBelow reduceColumn forwardElimination addTerm substituteRow backSubstitution augmentEntry augmentRow augmented solutionOf linear.systemRefusal drawOf monnaOf inverseOf distanceOf digits placed digitsAdded clampOf margin times valuation raised baseRefusal digitsRefusal monnaMapOf pAdicDistanceOf inverseMonnaMapOf differencesOf differenceAt withQuotient quotientOf leastDistance tabulated nonEmpty leastA mostA pi nanArgument outOfRange anyNan scratchSize enough fitRefusal weightSum checksumOf
 holds = (refl, (refl, (refl, (refl, (refl, (refl, (refl, (refl, (refl, (refl, (refl, (refl, (refl, (refl, (refl, (refl, (refl, tt)))))))))))))))))

@@ -66,8 +66,8 @@ table =
     ∷ (checksumOf (take 68 second-line) is 7)
     -- 1 by 1 systems with pivots 1e-12 and 5e-13
     ∷ (solutionOf 1 (decimal 1 12 ∷ []) (decimal 1 12 ∷ []) is some (whole 1 ∷ []))
-    ∷ (linear.refusalOf 1 (decimal 1 12 ∷ []) (whole 1 ∷ []) 1 2 is 0)
-    ∷ (linear.refusalOf 1 (decimal 5 13 ∷ []) (whole 1 ∷ []) 1 2 is 22)
+    ∷ (linear.systemRefusal 1 (decimal 1 12 ∷ []) (whole 1 ∷ []) 1 2 is 0)
+    ∷ (linear.systemRefusal 1 (decimal 5 13 ∷ []) (whole 1 ∷ []) 1 2 is 22)
     -- P = 2 and S = 5, S = 6
     ∷ (fitRefusal (twoPasses 5) noRoom is 10)
     ∷ (fitRefusal (twoPasses 6) noRoom is 21)

@@ -4,7 +4,6 @@ use mathlib.Core.List.{List, _∷_, []}
 use lib.IntN.{ℤ}
 use lib.Ieee.{Float}
 use Rattle.moment.specs.declared.Moment.{Moment}
-use Rattle.frame.specs.declared.Vec3.{Vec3}
 use Rattle.frame.specs.declared.JulianDate.{JulianDate}
 use Rattle.frame.specs.declared.JulianDate.the-variants as jd
 use Rattle.orbit.specs.declared.Ecef.{Ecef}
@@ -15,9 +14,6 @@ use Rattle.orbit.specs.declared.doppler.Prediction.the-variants as prediction
 
 abbrev pub moment : ℤ → ℕ → Moment
 moment s n = record { seconds = s; nanos = n }
-
-abbrev pub place : Float → Float → Float → Vec3
-place x y z = record { x = x; y = y; z = z }
 
 abbrev pub polynomial : Float → Float → Float → DfPoly
 polynomial c0 c1 c2 = record { 0 = c0; 1 = c1; 2 = c2 }

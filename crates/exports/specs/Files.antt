@@ -17,11 +17,11 @@ flagOf b = cond b 1 0
 abbrev pub numbersOf : List ℕ → PassFile → List ℕ
 numbersOf old r = cond (eqb (r .refusal) 0) (r .count ∷ r .«name_start» ∷ r .«name_end» ∷ flagOf (r .«name_seen») ∷ []) old
 
-abbrev pub centerOf : Float → PassFile → Float
-centerOf old r = cond (eqb (r .refusal) 0) (r .«center_freq») old
+abbrev pub centerAfter : Float → PassFile → Float
+centerAfter old r = cond (eqb (r .refusal) 0) (r .«center_freq») old
 
-pub record Given (file : List ℕ) (times times′ : List ℤ) (freqs freqs′ : List Float) (numbers numbers′ : List ℕ) (center center′ : Float) (k : ℕ) : Type 0 where
+pub record FileGiven (file : List ℕ) (times times′ : List ℤ) (freqs freqs′ : List Float) (numbers numbers′ : List ℕ) (center center′ : Float) (k : ℕ) : Type 0 where
   pub reads : Reads file times times′ freqs freqs′ (answer file (length times) (length freqs))
   pub number : k ≡ answer file (length times) (length freqs) .refusal
   pub put-numbers : numbers′ ≡ numbersOf numbers (answer file (length times) (length freqs))
-  pub put-center : center′ ≡ centerOf center (answer file (length times) (length freqs))
+  pub put-center : center′ ≡ centerAfter center (answer file (length times) (length freqs))

@@ -5,9 +5,9 @@ use Prim.Native.Nat.{ℕ}
 use lib.ListN.{length}
 use lib.Ieee.{Float}
 use Rattle.linear.specs.Elimination.{solutionOf}
-use Rattle.linear.specs.Answer.{refusalOf, outOf, scratchOf}
+use Rattle.linear.specs.Answer.{systemRefusal, outOf, scratchOf}
 
 pub record SolvesTo (n : ℕ) (m v o o′ s s′ : List Float) (r : ℕ) : Type 0 where
-  pub answer : r ≡ refusalOf n m v (length o) (length s)
-  pub out : o′ ≡ outOf (refusalOf n m v (length o) (length s)) (solutionOf n m v) n o
-  pub scratch : s′ ≡ scratchOf (refusalOf n m v (length o) (length s)) s
+  pub answer : r ≡ systemRefusal n m v (length o) (length s)
+  pub out : o′ ≡ outOf (systemRefusal n m v (length o) (length s)) (solutionOf n m v) n o
+  pub scratch : s′ ≡ scratchOf (systemRefusal n m v (length o) (length s)) s

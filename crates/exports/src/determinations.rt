@@ -1,9 +1,9 @@
 // A fit and its element lines in one call. The fit's orbit, count and best sum, the lines' refusal and their number of bytes go to
 // places of their own: after a refusal of the fit zeros, with its number for the lines.
 ghost use mathlib.Core.Path.{_≡_};
+ghost use Rattle.frame.specs.Rotation.{place};
 ghost use Rattle.fit.specs.Answer.{arguments, outputs};
 ghost use Rattle.determination.specs.Calls.{Determines, DeterminesStored};
-ghost use Rattle.exports.specs.Answers.{place};
 ghost use Rattle.exports.specs.Determinations.{determination};
 ghost use Rattle.exports.specs.Elements.{orbit};
 use super::fits;

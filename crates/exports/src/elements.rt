@@ -1,9 +1,8 @@
 // The frame's rotation and the element lines.
 ghost use mathlib.Core.Path.{_≡_};
 ghost use lib.ListN.{take};
-ghost use Rattle.frame.specs.Rotation.{ecefOf};
+ghost use Rattle.frame.specs.Rotation.{ecefOf, place};
 ghost use Rattle.tle.specs.Lines.{checksumOf};
-ghost use Rattle.exports.specs.Answers.{place};
 ghost use Rattle.exports.specs.Elements.{six, orbit, FormatsTo};
 use frame::Vec3;
 use moment::Moment;

@@ -1,6 +1,6 @@
 // The pass file.
 ghost use mathlib.Core.Path.{_≡_};
-ghost use Rattle.exports.specs.Files.{flagOf, Given};
+ghost use Rattle.exports.specs.Files.{flagOf, FileGiven};
 
 fn flag(b: bool) -> usize
     ensures { λ r. ⌜ r ≡ flagOf b ⌝ }
@@ -20,7 +20,7 @@ pub extern "C" fn wisvalom_read_pass_file(
     numbers: &mut [usize; 4],
     center_freq: &mut f64,
 ) -> u32
-    ensures { λ r. ⌜ Given (now (file .entry)) (now (times .entry)) (now (times .exit)) (now (freqs .entry)) (now (freqs .exit)) (now (numbers .entry)) (now (numbers .exit)) (now («center_freq» .entry)) (now («center_freq» .exit)) r ⌝ }
+    ensures { λ r. ⌜ FileGiven (now (file .entry)) (now (times .entry)) (now (times .exit)) (now (freqs .entry)) (now (freqs .exit)) (now (numbers .entry)) (now (numbers .exit)) (now («center_freq» .entry)) (now («center_freq» .exit)) r ⌝ }
 {
     let r = passes::file::read_pass_file(file, times, freqs);
     if r.refusal != 0 {

@@ -1,7 +1,7 @@
 // The fit. Its orbit, count and best sum go to places of their own: zeros after a refusal.
 ghost use mathlib.Core.Path.{_≡_};
+ghost use Rattle.frame.specs.Rotation.{place};
 ghost use Rattle.fit.specs.Answer.{arguments, outputs};
-ghost use Rattle.exports.specs.Answers.{place};
 ghost use Rattle.exports.specs.Elements.{orbit};
 ghost use Rattle.exports.specs.Fits.{fitted, FitsTo};
 use fit::Fit;

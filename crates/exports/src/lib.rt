@@ -14,13 +14,14 @@ pub mod systems;
 pub mod texts;
 
 ghost use mathlib.Core.Path.{_≡_};
+ghost use Rattle.frame.specs.Rotation.{place};
 ghost use Rattle.roots.specs.Root.{sqrtOf};
 ghost use Rattle.roots.specs.Cube.{cbrtOf};
 ghost use Rattle.float.specs.Trig.{sinOf, cosOf};
 ghost use Rattle.frame.specs.Julian.{datetimeToJdOf};
 ghost use Rattle.orbit.specs.Orbit.{propagateEcefOf};
 ghost use Rattle.orbit.specs.Doppler.{predictFrequencyOf, predictFrequencyPolyOf};
-ghost use Rattle.exports.specs.Answers.{jdNumber, jdValue, ecefNumber, ecefValues, predictionNumber, predictionValue, moment, place, polynomial};
+ghost use Rattle.exports.specs.Answers.{jdNumber, jdValue, ecefNumber, ecefValues, predictionNumber, predictionValue, moment, polynomial};
 use frame::JulianDate;
 use frame::Vec3;
 use moment::Moment;

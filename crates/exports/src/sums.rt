@@ -1,9 +1,10 @@
 // Closest moments and sums of squares, over a pass set in flat arrays.
 ghost use mathlib.Core.Path.{_≡_};
+ghost use Rattle.frame.specs.Rotation.{place};
 ghost use Rattle.orbit.specs.Doppler.{stationAt};
 ghost use Rattle.approach.specs.Sums.{rssOf, gradientOf};
-ghost use Rattle.approach.specs.Answers.{refusalOf, FindsPcas, rssAnswer, gradientAnswer};
-ghost use Rattle.exports.specs.Answers.{moment, place};
+ghost use Rattle.approach.specs.Answers.{sumRefusal, FindsPcas, rssAnswer, gradientAnswer};
+ghost use Rattle.exports.specs.Answers.{moment};
 ghost use Rattle.exports.specs.Sums.{rssValue, gradientValues};
 use frame::Vec3;
 use moment::Moment;
@@ -63,9 +64,9 @@ pub extern "C" fn wisvalom_compute_rss(
     u0: f64,
     out: &mut f64,
 ) -> u32
-    ensures { λ r. ⌜ r ≡ rssAnswer (refusalOf (moment epoch «epoch_nanos») (now (counts .entry)) (now (times .entry)) (now (freqs .entry)) (now (centers .entry)))
+    ensures { λ r. ⌜ r ≡ rssAnswer (sumRefusal (moment epoch «epoch_nanos») (now (counts .entry)) (now (times .entry)) (now (freqs .entry)) (now (centers .entry)))
         (rssOf (stationAt (moment epoch «epoch_nanos») «center_freq» (place x y z)) (record { a = a; i = i; raan0 = raan0; u0 = u0 }) (now (counts .entry)) (now (times .entry)) (now (freqs .entry)) (now (centers .entry))) .refusal ⌝ }
-    ensures { λ _. ⌜ now (out .exit) ≡ rssValue (now (out .entry)) (rssAnswer (refusalOf (moment epoch «epoch_nanos») (now (counts .entry)) (now (times .entry)) (now (freqs .entry)) (now (centers .entry)))
+    ensures { λ _. ⌜ now (out .exit) ≡ rssValue (now (out .entry)) (rssAnswer (sumRefusal (moment epoch «epoch_nanos») (now (counts .entry)) (now (times .entry)) (now (freqs .entry)) (now (centers .entry)))
         (rssOf (stationAt (moment epoch «epoch_nanos») «center_freq» (place x y z)) (record { a = a; i = i; raan0 = raan0; u0 = u0 }) (now (counts .entry)) (now (times .entry)) (now (freqs .entry)) (now (centers .entry)))) ⌝ }
 {
     let answer = approach::compute_rss(
@@ -110,9 +111,9 @@ pub extern "C" fn wisvalom_compute_gradient(
     u0: f64,
     out: &mut [f64; 4],
 ) -> u32
-    ensures { λ r. ⌜ r ≡ gradientAnswer (refusalOf (moment epoch «epoch_nanos») (now (counts .entry)) (now (times .entry)) (now (freqs .entry)) (now (centers .entry)))
+    ensures { λ r. ⌜ r ≡ gradientAnswer (sumRefusal (moment epoch «epoch_nanos») (now (counts .entry)) (now (times .entry)) (now (freqs .entry)) (now (centers .entry)))
         (gradientOf (stationAt (moment epoch «epoch_nanos») «center_freq» (place x y z)) (record { a = a; i = i; raan0 = raan0; u0 = u0 }) (now (counts .entry)) (now (times .entry)) (now (freqs .entry)) (now (centers .entry))) .refusal ⌝ }
-    ensures { λ _. ⌜ now (out .exit) ≡ gradientValues (now (out .entry)) (gradientAnswer (refusalOf (moment epoch «epoch_nanos») (now (counts .entry)) (now (times .entry)) (now (freqs .entry)) (now (centers .entry)))
+    ensures { λ _. ⌜ now (out .exit) ≡ gradientValues (now (out .entry)) (gradientAnswer (sumRefusal (moment epoch «epoch_nanos») (now (counts .entry)) (now (times .entry)) (now (freqs .entry)) (now (centers .entry)))
         (gradientOf (stationAt (moment epoch «epoch_nanos») «center_freq» (place x y z)) (record { a = a; i = i; raan0 = raan0; u0 = u0 }) (now (counts .entry)) (now (times .entry)) (now (freqs .entry)) (now (centers .entry)))) ⌝ }
 {
     let answer = approach::compute_gradient(

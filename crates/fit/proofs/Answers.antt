@@ -26,16 +26,16 @@ use Rattle.trials.specs.declared.Trials.{Trials}
 use Rattle.arguments.specs.Passes.{nonEmpty, centerOf, Compacts}
 use Rattle.arguments.specs.declared.NonEmpty.{NonEmpty}
 use Rattle.arguments.specs.Refusals as given
-use Rattle.arguments.specs.Refusals.{enough, inputRefusalOf, Accepted}
+use Rattle.arguments.specs.Refusals.{enough, inputRefusalOf, InputAccepted}
 use Rattle.arguments.proofs.Laws.{then, roomy, few-kept}
-use Rattle.start.specs.Start.{Passes, radiusEstimate}
+use Rattle.start.specs.Start.{SampledPasses, radiusEstimate}
 use Rattle.start.proofs.Given.{accepted-passes}
 use Rattle.fit.specs.Fit.{Observations, observed, radius, refined, trialBook}
 use Rattle.fit.specs.Answer.{
   Arguments,
   observations,
   passCount,
-  firstOf,
+  firstBookOf,
   bookOf,
   workRefusals,
   fitRefusal,
@@ -51,7 +51,7 @@ use Rattle.fit.specs.Answer.{
   clearedScratch,
   Fits,
 }
-use Rattle.fit.specs.Work.{Given, Solves, Holds, Puts}
+use Rattle.fit.specs.Work.{Given, WorkDone, OutputsRoom, Puts}
 use Rattle.fit.specs.declared.Fit.{Fit}
 use Rattle.fit.specs.declared.Solved.{Solved}
 
@@ -117,10 +117,10 @@ most-trials a i x = most _ _ _ _ 150
 -- ---- the ways out
 
 module _ (x : Arguments) (o : Outputs) (scratch : List Float) (n : ℕ) (h : n ≡ inputRefusalOf (x .counts) (x .times) (x .freqs) (x .centers) (x .rec) (x .a) (x .i)) where
-  refusal-is : cond (eqb n 0) (first ((refusal.short-memory if not (enough (length (x .times)) (passCount x) (outputRoom o scratch))) ∷ workRefusals (firstOf x) (bookOf x) (passCount x))) n
+  refusal-is : cond (eqb n 0) (first ((refusal.short-memory if not (enough (length (x .times)) (passCount x) (outputRoom o scratch))) ∷ workRefusals (firstBookOf x) (bookOf x) (passCount x))) n
       ≡ fitRefusal x (outputRoom o scratch)
   unfolding fitRefusal
-  refusal-is = then (x .counts) (x .times) (x .freqs) (x .centers) (x .rec) (x .a) (x .i) n ((refusal.short-memory if not (enough (length (x .times)) (passCount x) (outputRoom o scratch))) ∷ workRefusals (firstOf x) (bookOf x) (passCount x)) h
+  refusal-is = then (x .counts) (x .times) (x .freqs) (x .centers) (x .rec) (x .a) (x .i) n ((refusal.short-memory if not (enough (length (x .times)) (passCount x) (outputRoom o scratch))) ∷ workRefusals (firstBookOf x) (bookOf x) (passCount x)) h
 
   early-is : cond (eqb n 0) (first ((refusal.short-memory if not (enough (length (x .times)) (passCount x) (outputRoom o scratch))) ∷ [])) n ≡ earlyRefusal x (outputRoom o scratch)
   unfolding given.refusalOf
@@ -140,17 +140,17 @@ module _ (x : Arguments) (o : Outputs) (scratch : List Float) (n : ℕ) (h : n �
     pub fits-room : enough (length (x .times)) (passCount x) (outputRoom o scratch) ≡ false → Fits x o o scratch scratch (refusedBy 21)
     fits-room e =
         refused-by 21
-        (sym refusal-is ∙ is-zero n _ z ∙ ap (λ (b : Bool). first ((refusal.short-memory if not b) ∷ workRefusals (firstOf x) (bookOf x) (passCount x))) e)
+        (sym refusal-is ∙ is-zero n _ z ∙ ap (λ (b : Bool). first ((refusal.short-memory if not b) ∷ workRefusals (firstBookOf x) (bookOf x) (passCount x))) e)
         (sym early-is ∙ is-zero n _ z ∙ ap (λ (b : Bool). first ((refusal.short-memory if not b) ∷ [])) e)
         (λ k. omega (arith, k))
 
-    module _ (e : enough (length (x .times)) (passCount x) (outputRoom o scratch) ≡ true) (w : Solved) (old sums : List Float) (s : Solves (observations x) (radius (observations x)) (x .i) old sums w) (scratch′ : List Float)
+    module _ (e : enough (length (x .times)) (passCount x) (outputRoom o scratch) ≡ true) (w : Solved) (old sums : List Float) (s : WorkDone (observations x) (radius (observations x)) (x .i) old sums w) (scratch′ : List Float)
         (zeros : scratch′ ≡ replicate (length scratch) (bits 0)) where
       worked : fitRefusal x (outputRoom o scratch) ≡ w .refusal
       worked =
           sym refusal-is
           ∙ is-zero n _ z
-          ∙ ap (λ (b : Bool). first ((refusal.short-memory if not b) ∷ workRefusals (firstOf x) (bookOf x) (passCount x))) e
+          ∙ ap (λ (b : Bool). first ((refusal.short-memory if not b) ∷ workRefusals (firstBookOf x) (bookOf x) (passCount x))) e
           ∙ sym (s .refused)
 
       not-early : earlyRefusal x (outputRoom o scratch) ≡ 0
@@ -173,8 +173,8 @@ module _ (x : Arguments) (o : Outputs) (scratch : List Float) (n : ℕ) (h : n �
 -- ---- what the fit meets
 
 pub solves-all : (x : Arguments) (counts : List ℕ) (epoch : Instant) (center a : Float) (old sums : List Float) (w : Solved) → counts ≡ nonEmpty (x .counts) → epoch ≡ instantAt (getD (x .times) 0 (pos 0)) → center ≡ centerOf (x .counts) (x .centers)
-    → a ≡ radiusEstimate counts (x .times) (x .freqs) center → Solves (observed counts (x .times) (x .freqs) (record { epoch = epoch; «center_freq» = center; «rec_ecef» = x .rec })) a (x .i) old sums w
-    → Solves (observations x) (radius (observations x)) (x .i) old sums w
+    → a ≡ radiusEstimate counts (x .times) (x .freqs) center → WorkDone (observed counts (x .times) (x .freqs) (record { epoch = epoch; «center_freq» = center; «rec_ecef» = x .rec })) a (x .i) old sums w
+    → WorkDone (observations x) (radius (observations x)) (x .i) old sums w
 unfolding radius
 solves-all x counts epoch center a old sums w e t f g s = rw (g, e, t, f) at s
 
@@ -183,15 +183,15 @@ pub room-said : (x : Arguments) (o : Outputs) (scratch : List Float) (p : ℕ) (
 room-said x o scratch p r t e f h = rw (← f, ← e) h
 
 pub few-passes : {counts : List ℕ} {times : List ℤ} {freqs centers : List Float} {rec : Vec3} {a i : Float} {r : NonEmpty}
-    → Accepted counts times freqs centers rec a i → Compacts counts r → r .passes ≤ 16
+    → InputAccepted counts times freqs centers rec a i → Compacts counts r → r .passes ≤ 16
 few-passes {counts} k c = omega (arith, c .number, few-kept counts, k .sizes .few)
 
 pub in-sixteen : (n : ℕ) (l : List ℕ) → n ≤ 16 → length l ≡ 16 → n ≤ length l
 in-sixteen n l h e = rw e h
 
-module _ (x : Arguments) (o : Outputs) (scratch : List Float) (a : Accepted (x .counts) (x .times) (x .freqs) (x .centers) (x .rec) (x .a) (x .i)) (r : NonEmpty) (c : Compacts (x .counts) r)
+module _ (x : Arguments) (o : Outputs) (scratch : List Float) (a : InputAccepted (x .counts) (x .times) (x .freqs) (x .centers) (x .rec) (x .a) (x .i)) (r : NonEmpty) (c : Compacts (x .counts) r)
     (e : enough (length (x .times)) (passCount x) (outputRoom o scratch) ≡ true) where
-  pub passes-all : Passes (take (r .passes) (r .counts)) (x .times) (x .freqs) × (0 < length (take (r .passes) (r .counts)))
+  pub passes-all : SampledPasses (take (r .passes) (r .counts)) (x .times) (x .freqs) × (0 < length (take (r .passes) (r .counts)))
   passes-all = rw (c .kept) (accepted-passes a, omega (arith, a .passes))
 
   pub given-all : (g : Station) → Within 0 (g .epoch .secs) (g .epoch .nanos) → Given g (take (r .passes) (r .counts)) (x .times) (x .freqs) (length scratch)
@@ -199,7 +199,7 @@ module _ (x : Arguments) (o : Outputs) (scratch : List Float) (a : Accepted (x .
       let m = roomy _ _ _ e in
       rw (c .kept) (record { dated = d; set = accepted-passes a; two = a .passes; room = m .scratch-room })
 
-  pub holds : (t : Trials) (old sums : List Float) → RunsTo (bookOf x) old sums t → length sums ≡ 150 → Holds (t .count) (r .passes) (x .times) sums o
+  pub holds : (t : Trials) (old sums : List Float) → RunsTo (bookOf x) old sums t → length sums ≡ 150 → OutputsRoom (t .count) (r .passes) (x .times) sums o
   holds t old sums run size =
       let m = roomy _ _ _ e in
       record {

@@ -19,10 +19,10 @@ use Rattle.orbit.specs.declared.Elements.{Elements}
 use Rattle.orbit.specs.declared.doppler.Station.{Station}
 use Rattle.pass_set.specs.PassSet.{startOf}
 use Rattle.pass_set.proofs.Laws.{start-zero, start-next, start-fits}
-use Rattle.search.specs.Sum.{sumOf}
+use Rattle.search.specs.Sum.{fixedSum}
 use Rattle.search.specs.Search.{searchOf}
 use Rattle.search.specs.declared.Found.{Found}
-use Rattle.residuals.specs.Samples.{passesOf, countsAt, Dated, Rotations}
+use Rattle.residuals.specs.Samples.{passesOf, countsAt, DatedTimes, Rotations}
 use Rattle.residuals.specs.Residuals.{rowsOf, placeOf, elementsOf, penalisedSum}
 use Rattle.residuals.proofs.Samples.{counts-length, counts-dated}
 use Rattle.refine.specs.Advance.{advanceOf}
@@ -30,7 +30,7 @@ use Rattle.book.specs.Book.{Search, book}
 use Rattle.book.specs.declared.Ending.{Ending}
 use Rattle.book.specs.declared.Ending.the-variants.{Refused}
 use Rattle.trials.specs.Trials as trials
-use Rattle.trials.specs.Trials.{RunsTo, Runs, Fits}
+use Rattle.trials.specs.Trials.{RunsTo, Runs, TrialsAsk}
 use Rattle.trials.specs.declared.Trials.{Trials}
 use Rattle.trials.specs.declared.State.{State}
 use Rattle.start.specs.Start.{startingSet}
@@ -38,12 +38,12 @@ use Rattle.start.proofs.Given.{first-passes}
 use Rattle.arguments.specs.Refusals.{scratchSize}
 use Rattle.fit.specs.Fit.{Observations, observed, firstTwo, bestStart, startElements, refined, refinedTwo, firstBook, trialBook}
 use Rattle.fit.specs.Answer.{farEnding, farRefusal, searchRefusals}
-use Rattle.fit.specs.Work.{Refines, Two, Given, Ends, Solves}
+use Rattle.fit.specs.Work.{Refines, RoomForTwo, Given, Ends, WorkDone}
 
 -- ---- the start
 
 pub elements-found : (a i : Float) (x : Observations) (f : Found)
-    → f ≡ searchOf (sumOf (x .counts) (x .times) (x .freqs) (x .station .«center_freq» ∷ x .station .«center_freq» ∷ []) (record { station = x .station; a = a; i = i })) 0 144
+    → f ≡ searchOf (fixedSum (x .counts) (x .times) (x .freqs) (x .station .«center_freq» ∷ x .station .«center_freq» ∷ []) (record { station = x .station; a = a; i = i })) 0 144
     → _≡_ {A = Elements} (record { a = a; i = i; raan0 = f .raan0; u0 = f .u0 }) (startElements a i x)
 unfolding startElements bestStart
 elements-found a i x f h = rw h
@@ -54,12 +54,12 @@ module _ (times : List ℤ) (moments : List ℕ) (is : moments ≡ countsAt time
   pub moments-length : length moments ≡ length times
   moments-length = ap length is ∙ counts-length times
 
-  pub moments-dated : Timed times → Dated moments
+  pub moments-dated : Timed times → DatedTimes moments
   moments-dated h = rw is (counts-dated times h)
 
 module _ {second : Bool} {most : ℕ} {g : Station} {counts : List ℕ} {times : List ℤ} {freqs : List Float} {log scratch : ℕ} (s : Refines second most g counts times freqs log scratch) where
   pub asks : (moments : List ℕ) (turns : List Float) (room : ℕ) → moments ≡ countsAt times → Rotations moments turns
-      → room ≡ scratch → Fits second g (passesOf counts moments freqs) turns room
+      → room ≡ scratch → TrialsAsk second g (passesOf counts moments freqs) turns room
   asks moments turns room is t e =
       let same = moments-length times moments is in
       record {
@@ -84,7 +84,7 @@ runs-refined second enough most e x moments start old log cells scratch scratch�
 
 -- ---- two passes
 
-pub two-refines : {g : Station} {counts : List ℕ} {times : List ℤ} {freqs : List Float} {scratch : ℕ} (room : ℕ) → room ≡ scratch → Two g counts times freqs scratch
+pub two-refines : {g : Station} {counts : List ℕ} {times : List ℤ} {freqs : List Float} {scratch : ℕ} (room : ℕ) → room ≡ scratch → RoomForTwo g counts times freqs scratch
     → Refines false 100 g counts times freqs 100 room
 unfolding rowsOf placeOf
 two-refines room e s =
@@ -110,7 +110,7 @@ module _ {g : Station} {counts : List ℕ} {times : List ℤ} {freqs : List Floa
   pub some-times : 0 < length times
   some-times = omega (arith, two-fits, s .set .each 0 (omega (arith, s .two)))
 
-  pub gives-two : (n : ℕ) → n ≡ getD counts 0 0 + getD counts 1 0 → Two g (take 2 counts) (take n times) (take n freqs) scratch
+  pub gives-two : (n : ℕ) → n ≡ getD counts 0 0 + getD counts 1 0 → RoomForTwo g (take 2 counts) (take n times) (take n freqs) scratch
   unfolding scratchSize
   gives-two n e =
       let at : n ≡ startOf counts 2 = e ∙ two-start counts (s .two) in
@@ -183,11 +183,11 @@ module _ (r : ℕ) (e : Ending) (is : r ≡ farRefusal e) where
       go false h = refl
 
 module _ (x : Observations) (a i : Float) (old log : List Float) (s : State) (e : Ends (firstBook a i x) s) where
-  pub solves-far : (r : ℕ) (t : Trials) → r ≡ farRefusal (s .ended) → (r ≡ 0 → ⊥) → Solves x a i old log (record { refusal = r; trials = t })
+  pub solves-far : (r : ℕ) (t : Trials) → r ≡ farRefusal (s .ended) → (r ≡ 0 → ⊥) → WorkDone x a i old log (record { refusal = r; trials = t })
   solves-far r t h z = record { refused = rw (← e .ended, far-ended r (s .ended) h z) (far-number r (s .ended) h z); runs = λ y. absurd (z y) }
 
   pub solves : (r : ℕ) (t : Trials) (k : Elements) → farEnding (s .ended) ≡ false → k ≡ elementsOf (s .«best_params») → RunsTo (refined true true 150 k x) old log t
-      → r ≡ first (searchRefusals (t .state .ended) (trials.stateSearch (t .state)) (length (x .counts))) → Solves x a i old log (record { refusal = r; trials = t })
+      → r ≡ first (searchRefusals (t .state .ended) (trials.stateSearch (t .state)) (length (x .counts))) → WorkDone x a i old log (record { refusal = r; trials = t })
   solves r t k h q run is =
       let b = second-runs x a i old log k t (q ∙ ap (λ (y : Search). elementsOf (y .bestSet)) (e .search)) run in
       record { refused = rw (← e .ended, h, ← b .ended, ← b .search) is; runs = λ z. b }

@@ -48,8 +48,8 @@ abbrev pub passCount : Arguments → ℕ
 passCount x = length (nonEmpty (x .counts))
 
 -- the books of both refinements, from the radius that the passes' times give; the second is document 01's trial book
-abbrev pub firstOf : Arguments → Book
-firstOf x = firstBook (radius (observations x)) (x .i) (observations x)
+abbrev pub firstBookOf : Arguments → Book
+firstBookOf x = firstBook (radius (observations x)) (x .i) (observations x)
 
 abbrev pub bookOf : Arguments → Book
 bookOf x = trialBook (radius (observations x)) (x .i) (observations x)
@@ -102,7 +102,7 @@ unfoldable pub fitRefusal : Arguments → Room → ℕ
 fitRefusal x room = first (
     inputRefusals (x .counts) (x .times) (x .freqs) (x .centers) (x .rec) (x .a) (x .i)
     ((refusal.short-memory if not (enough (length (x .times)) (passCount x) room))
-    ∷ workRefusals (firstOf x) (bookOf x) (passCount x)))
+    ∷ workRefusals (firstBookOf x) (bookOf x) (passCount x)))
 
 -- those before it works
 abbrev pub earlyRefusal : Arguments → Room → ℕ

@@ -11,7 +11,7 @@ use Rattle.moment.specs.Sample.{instantAt}
 use Rattle.frame.specs.declared.Vec3.{Vec3}
 use Rattle.orbit.specs.declared.Elements.{Elements}
 use Rattle.pass_set.specs.PassSet.{total}
-use Rattle.search.specs.Sum.{sumOf}
+use Rattle.search.specs.Sum.{fixedSum}
 use Rattle.search.specs.Search.{searchOf}
 use Rattle.search.specs.declared.Fixed.{Fixed}
 use Rattle.search.specs.declared.Found.{Found}
@@ -57,7 +57,7 @@ observedFixed a i x = record { station = x .station; a = a; i = i }
 
 -- the best of the 144 starts on two passes x
 unfoldable pub bestStart : Float → Float → Observations → Found
-bestStart a i x = searchOf (sumOf (x .counts) (x .times) (x .freqs) (x .station .«center_freq» ∷ x .station .«center_freq» ∷ []) (observedFixed a i x)) 0 144
+bestStart a i x = searchOf (fixedSum (x .counts) (x .times) (x .freqs) (x .station .«center_freq» ∷ x .station .«center_freq» ∷ []) (observedFixed a i x)) 0 144
 
 unfoldable pub startElements : Float → Float → Observations → Elements
 startElements a i x = record { a = a; i = i; raan0 = bestStart a i x .raan0; u0 = bestStart a i x .u0 }

@@ -16,7 +16,7 @@ use Rattle.trials.specs.Trials.{stateSearch, RunsTo}
 use Rattle.trials.specs.declared.State.{State}
 use Rattle.trials.specs.declared.Trials.{Trials}
 use Rattle.arguments.specs.Refusals.{scratchSize}
-use Rattle.start.specs.Start.{Passes}
+use Rattle.start.specs.Start.{SampledPasses}
 use Rattle.fit.specs.Fit.{Observations, firstBook, trialBook}
 use Rattle.fit.specs.Answer.{workRefusals, fitFound, Outputs, filledOutputs}
 use Rattle.fit.specs.declared.Fit.{Fit}
@@ -25,16 +25,16 @@ use Rattle.fit.specs.declared.Solved.{Solved}
 -- of a refinement: an epoch that passed refusal 4, samples in passes, room for the sums and for the table
 pub record Refines (second : Bool) (most : ℕ) (g : Station) (counts : List ℕ) (times : List ℤ) (freqs : List Float) (log scratch : ℕ) : Type 0 where
   pub dated : Within 0 (g .epoch .secs) (g .epoch .nanos)
-  pub set : Passes counts times freqs
+  pub set : SampledPasses counts times freqs
   pub some : 0 < length times
   pub log-room : most ≤ log
   pub few : most ≤ 150
   pub table : rowsOf second (length times) (length counts) * placeOf second (length counts) ≤ scratch
 
 -- of two passes: room for the table of rotations and for the table of derivatives
-pub record Two (g : Station) (counts : List ℕ) (times : List ℤ) (freqs : List Float) (scratch : ℕ) : Type 0 where
+pub record RoomForTwo (g : Station) (counts : List ℕ) (times : List ℤ) (freqs : List Float) (scratch : ℕ) : Type 0 where
   pub dated : Within 0 (g .epoch .secs) (g .epoch .nanos)
-  pub set : Passes counts times freqs
+  pub set : SampledPasses counts times freqs
   pub two : length counts ≡ 2
   pub some : 0 < length times
   pub rotations : 20000 ≤ scratch
@@ -43,7 +43,7 @@ pub record Two (g : Station) (counts : List ℕ) (times : List ℤ) (freqs : Lis
 -- of both refinements: two passes or more, and the scratch that document 01 asks for
 pub record Given (g : Station) (counts : List ℕ) (times : List ℤ) (freqs : List Float) (scratch : ℕ) : Type 0 where
   pub dated : Within 0 (g .epoch .secs) (g .epoch .nanos)
-  pub set : Passes counts times freqs
+  pub set : SampledPasses counts times freqs
   pub two : 2 ≤ length counts
   pub room : scratchSize (length times) (length counts) ≤ scratch
 
@@ -53,12 +53,12 @@ pub record Ends (b : Book) (s : State) : Type 0 where
   pub ended : s .ended ≡ b .ended
 
 -- the work's refusal; without one, its trials are the trial book
-pub record Solves (x : Observations) (a i : Float) (old log : List Float) (w : Solved) : Type 0 where
+pub record WorkDone (x : Observations) (a i : Float) (old log : List Float) (w : Solved) : Type 0 where
   pub refused : w .refusal ≡ first (workRefusals (firstBook a i x) (trialBook a i x) (length (x .counts)))
   pub runs : w .refusal ≡ 0 → RunsTo (trialBook a i x) old log (w .trials)
 
 -- of the outputs: room for n passes and for the sums
-pub record Holds (count n : ℕ) (times : List ℤ) (sums : List Float) (o : Outputs) : Type 0 where
+pub record OutputsRoom (count n : ℕ) (times : List ℤ) (sums : List Float) (o : Outputs) : Type 0 where
   pub timed : Timed times
   pub some : 0 < length times
   pub few : n ≤ 16

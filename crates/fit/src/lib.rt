@@ -12,7 +12,7 @@ ghost use Rattle.moment.specs.Sample.{Timed};
 ghost use Rattle.trials.specs.Trials.{stateSearch, RunsTo};
 ghost use Rattle.fit.specs.Fit.{observed, startElements, refined, refinedTwo, firstBook};
 ghost use Rattle.fit.specs.Answer.{arguments, farRefusal, largestOffset, biases, anyLarge, searchRefusals, orbitOf, refusedBy, outputs, Fits};
-ghost use Rattle.fit.specs.Work.{Refines, Two, Given, Ends, Solves, Holds, Puts};
+ghost use Rattle.fit.specs.Work.{Refines, RoomForTwo, Given, Ends, WorkDone, OutputsRoom, Puts};
 use arguments::MAX_TRIALS;
 use book::Ending;
 use frame::Vec3;
@@ -52,7 +52,7 @@ fn start_elements(
     i: f64,
     scratch: &mut [f64],
 ) -> Elements
-    requires { ⌜ Two g (now counts) (now times) (now freqs) (length (now scratch)) ⌝ }
+    requires { ⌜ RoomForTwo g (now counts) (now times) (now freqs) (length (now scratch)) ⌝ }
     ensures { λ r. ⌜ r ≡ startElements a i (observed (now (counts .entry)) (now (times .entry)) (now (freqs .entry)) g) ⌝ }
 {
     let centers = [g.center_freq; 2];
@@ -110,7 +110,7 @@ fn refine_two(
     i: f64,
     scratch: &mut [f64],
 ) -> State
-    requires { ⌜ Two g (now counts) (now times) (now freqs) (length (now scratch)) ⌝ }
+    requires { ⌜ RoomForTwo g (now counts) (now times) (now freqs) (length (now scratch)) ⌝ }
     ensures { λ r. ⌜ Ends (refinedTwo a i (observed (now (counts .entry)) (now (times .entry)) (now (freqs .entry)) g)) r ⌝ }
 {
     let e = start_elements(a, counts, times, freqs, g, i, scratch);
@@ -215,7 +215,7 @@ fn refine_both(
     scratch: &mut [f64],
 ) -> Solved
     requires { ⌜ Given g (now counts) (now times) (now freqs) (length (now scratch)) × (150 ≤ length (now log)) ⌝ }
-    ensures { λ r. ⌜ Solves (observed (now (counts .entry)) (now (times .entry)) (now (freqs .entry)) g) a i (now (log .entry)) (now (log .exit)) r ⌝ }
+    ensures { λ r. ⌜ WorkDone (observed (now (counts .entry)) (now (times .entry)) (now (freqs .entry)) g) a i (now (log .entry)) (now (log .exit)) r ⌝ }
 {
     let s = refine_first(a, counts, times, freqs, g, i, scratch);
     let ended = s.ended;
@@ -301,7 +301,7 @@ fn put_answer(
     df2s: &mut [f64],
     log: &mut [f64],
 ) -> Fit
-    requires { ⌜ Holds (t .count) passes (now times) (now sums) (outputs (now dts) (now dfs) (now df1s) (now df2s) (now log)) ⌝ }
+    requires { ⌜ OutputsRoom (t .count) passes (now times) (now sums) (outputs (now dts) (now dfs) (now df1s) (now df2s) (now log)) ⌝ }
     ensures { λ r. ⌜ Puts t passes (now (times .entry)) (now (sums .entry))
         (outputs (now (dts .entry)) (now (dfs .entry)) (now (df1s .entry)) (now (df2s .entry)) (now (log .entry)))
         (outputs (now (dts .exit)) (now (dfs .exit)) (now (df1s .exit)) (now (df2s .exit)) (now (log .exit))) r ⌝ }

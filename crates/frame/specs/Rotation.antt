@@ -48,3 +48,7 @@ ecefOf jd p v = rotatedOf (sinOf (thetaOf jd)) (cosOf (thetaOf jd)) (stateOf p v
 -- sine and cosine of the sidereal angle at the moment secs − 2^44 seconds after 1970 and so many nanoseconds
 abbrev pub turnAt : ℕ → ℕ → SinCos
 turnAt secs nanos = let theta = thetaOf (jdAt secs nanos) in record { sin = sinOf theta; cos = cosOf theta }
+
+-- a place by its three numbers
+abbrev pub place : Float → Float → Float → Vec3
+place x y z = record { x = x; y = y; z = z }

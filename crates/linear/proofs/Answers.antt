@@ -13,39 +13,39 @@ use Rattle.float.specs.Ops.{bits}
 use Rattle.loops.specs.Loop.{isSome, Settled}
 use Rattle.refusal.specs.Numbers as refusal
 use Rattle.linear.specs.Elimination.{solutionOf}
-use Rattle.linear.specs.Answer.{refusalOf, answerOf, outOf, scratchOf, Solves}
+use Rattle.linear.specs.Answer.{systemRefusal, answerOf, outOf, scratchOf, Solves}
 use Rattle.linear.specs.declared.Solution.the-variants.{Found, Refused}
 
 module _ (n : ℕ) (m v o s : List Float) where
   -- refused before any work, by one of the numbers up to 21
-  early : (k : ℕ) → refusalOf n m v (length o) (length s) ≡ k → outOf k (solutionOf n m v) n o ≡ o → scratchOf k s ≡ s → Solves n m v o o s s (answerOf k)
+  early : (k : ℕ) → systemRefusal n m v (length o) (length s) ≡ k → outOf k (solutionOf n m v) n o ≡ o → scratchOf k s ≡ s → Solves n m v o o s s (answerOf k)
   early k e p q = record { answer = rw e; out = rw (e, p); scratch = rw (e, q) }
 
   pub vector-off : (length v ≡ n → ⊥) → Solves n m v o o s s (Refused refusal.sizes)
-  unfolding refusalOf
+  unfolding systemRefusal
   vector-off h = early refusal.sizes (rw (ne-eqb _ _ h)) refl refl
 
   pub matrix-off : length v ≡ n → (length m ≡ n * n → ⊥) → Solves n m v o o s s (Refused refusal.sizes)
-  unfolding refusalOf
+  unfolding systemRefusal
   matrix-off ev h = early refusal.sizes (rw (eq-eqb _ _ ev, ne-eqb _ _ h)) refl refl
 
   module _ (ev : length v ≡ n) (em : length m ≡ n * n) where
     pub too-many : 68 < n → Solves n m v o o s s (Refused refusal.limits)
-    unfolding refusalOf
+    unfolding systemRefusal
     too-many h = early refusal.limits (rw (eq-eqb _ _ ev, eq-eqb _ _ em, lt-ltb _ _ h)) refl refl
 
     pub out-short : n ≤ 68 → length o < n → Solves n m v o o s s (Refused refusal.short-memory)
-    unfolding refusalOf
+    unfolding systemRefusal
     out-short h k = early refusal.short-memory (rw (eq-eqb _ _ ev, eq-eqb _ _ em, le-ltb _ _ h, lt-ltb _ _ k)) refl refl
 
     pub scratch-short : n ≤ 68 → n ≤ length o → length s < n * (n + 1) → Solves n m v o o s s (Refused refusal.short-memory)
-    unfolding refusalOf
+    unfolding systemRefusal
     scratch-short h k l = early refusal.short-memory (rw (eq-eqb _ _ ev, eq-eqb _ _ em, le-ltb _ _ h, le-ltb _ _ k, lt-ltb _ _ l)) refl refl
 
     -- the work is done: x is what it left in the solution's places, s₁ in the scratch, which is cleared to z
     module _ (h : n ≤ 68) (k : n ≤ length o) (l : n * (n + 1) ≤ length s) where
-      pub worked : refusalOf n m v (length o) (length s) ≡ cond (isSome (solutionOf n m v)) 0 refusal.small-pivot
-      unfolding refusalOf
+      pub worked : systemRefusal n m v (length o) (length s) ≡ cond (isSome (solutionOf n m v)) 0 refusal.small-pivot
+      unfolding systemRefusal
       worked = rw (eq-eqb _ _ ev, eq-eqb _ _ em, le-ltb _ _ h, le-ltb _ _ k, le-ltb _ _ l) (pivot (isSome (solutionOf n m v)))
         where
           pivot : (b : Bool) → cond (not b) refusal.small-pivot 0 ≡ cond b 0 refusal.small-pivot

@@ -16,8 +16,8 @@ use Rattle.linear.specs.declared.Solution.{Solution}
 use Rattle.linear.specs.declared.Solution.the-variants.{Found, Refused}
 
 -- a call's refusal, with o places lent for the solution and s to work in; 0 for none
-unfoldable pub refusalOf : ℕ → List Float → List Float → ℕ → ℕ → ℕ
-refusalOf n m v o s =
+unfoldable pub systemRefusal : ℕ → List Float → List Float → ℕ → ℕ → ℕ
+systemRefusal n m v o s =
     first (
     (refusal.sizes if not (eqb (length v) n && eqb (length m) (n * n)))
     ∷ (refusal.limits if ltb 68 n)
@@ -39,6 +39,6 @@ abbrev pub scratchOf : ℕ → List Float → List Float
 scratchOf k s = cond (ltb 0 k && ltb k refusal.small-pivot) s (replicate (length s) (bits 0))
 
 pub record Solves (n : ℕ) (m v o o′ s s′ : List Float) (r : Solution) : Type 0 where
-  pub answer : r ≡ answerOf (refusalOf n m v (length o) (length s))
-  pub out : o′ ≡ outOf (refusalOf n m v (length o) (length s)) (solutionOf n m v) n o
-  pub scratch : s′ ≡ scratchOf (refusalOf n m v (length o) (length s)) s
+  pub answer : r ≡ answerOf (systemRefusal n m v (length o) (length s))
+  pub out : o′ ≡ outOf (systemRefusal n m v (length o) (length s)) (solutionOf n m v) n o
+  pub scratch : s′ ≡ scratchOf (systemRefusal n m v (length o) (length s)) s

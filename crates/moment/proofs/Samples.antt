@@ -21,7 +21,7 @@ use Rattle.moment.specs.Origin.{count1957, count1970, count2057, countsS
 use Rattle.moment.specs.declared.Instant.{Instant}
 use Rattle.moment.specs.declared.Moment.{Moment}
 use Rattle.moment.specs.Time.{nanosOf, secondsOf, Sound}
-use Rattle.moment.specs.Range.{inRange, taken, countOf, Within}
+use Rattle.moment.specs.Range.{inRange, taken, momentCount, Within}
 use Rattle.moment.specs.Sample.{timeInRange, timesInRange, Timed, shifted, sampleCount, instantAt, momentAt, sinceOf}
 
 -- ---- a shift of a signed number
@@ -220,7 +220,7 @@ module _ (t : ℤ) (e : timeInRange t ≡ true) where
   moment-instant = ap₂ (λ (x y : ℕ). record { secs = x; nanos = y }) moment-secs moment-nanos
 
   -- so it counts the same, and a call takes it
-  pub moment-counts : countOf (momentAt t) ≡ sampleCount t
+  pub moment-counts : momentCount (momentAt t) ≡ sampleCount t
   moment-counts = rw (moment-secs, moment-nanos) (instant-counts t)
 
   pub moment-taken : taken (momentAt t) ≡ true

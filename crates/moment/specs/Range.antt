@@ -21,8 +21,8 @@ givenOf s n = cond (inRange s n) (At (record { secs = secondsOf s; nanos = n }))
 abbrev pub taken : Moment → Bool
 taken m = inRange (m .seconds) (m .nanos)
 
-abbrev pub countOf : Moment → ℕ
-countOf m = nanosOf (secondsOf (m .seconds)) (m .nanos)
+abbrev pub momentCount : Moment → ℕ
+momentCount m = nanosOf (secondsOf (m .seconds)) (m .nanos)
 
 -- within so many seconds of 1957 to 2057; a moment that is taken is within 0
 pub record Within (slack secs nanos : ℕ) : Type 0 where

@@ -12,7 +12,7 @@ use lib.Dec.{eqb, lit<}
 use lib.Ieee.{Float, toUnsigned}
 use Rattle.laws.proofs.Numbers.{sub-step}
 use Rattle.float.specs.Ops.{_⊕_, _⊖_, _⊗_, _⊘_, floorOf, raised}
-use Rattle.monna.specs.Digits.{Base, num, digits, placed, clampOf, inverseOf, taken, times, valuation, gap}
+use Rattle.monna.specs.Digits.{Base, num, digits, placed, clampOf, inverseOf, digitsAdded, times, valuation, gap}
 
 smaller : (p v : ℕ) → 2 ≤ p → suc v / p ≤ v
 smaller p v h = let l : suc v / p < suc v = div-lt-self (zero-lt-suc v) h in omega arith
@@ -64,7 +64,7 @@ digits-value p (suc k) (suc v) h l =
 -- ---- its inverse
 
 pub record Taking (n p : ℕ) (x : Float) (factor val t : ℕ) : Type 0 where
-  pub gives : taken n p x factor val ≡ t
+  pub gives : digitsAdded n p x factor val ≡ t
 
 pub take-start : (n p : ℕ) (x : Float) {y : Float} → y ≡ clampOf x → Taking (n - 0) p y 1 0 (inverseOf x p n)
 unfolding inverseOf
@@ -72,11 +72,11 @@ take-start n p x e = record { gives = rw (e, sub-zero n) }
 
 pub take-one : {n i p : ℕ} {x : Float} {factor val t : ℕ} (q w f : Float) (d : ℕ) → i < n → q ≡ num p → w ≡ floorOf (x ⊗ q) → d ≡ toUnsigned 64 w → f ≡ num d → Taking (n - i) p x factor val t
     → Taking (n - (i + 1)) p (x ⊗ q ⊖ f) (factor * p) (val + d % p * factor) t
-unfolding taken
+unfolding digitsAdded
 take-one {n = n} {i = i} q w f d h e v g k l = record { gives = rw (k, g, v, e) (rw (sub-step i n h) at (l .gives)) }
 
 pub all-taken : {n i p : ℕ} {x : Float} {factor val t : ℕ} → n ≤ i → Taking (n - i) p x factor val t → val ≡ t
-unfolding taken
+unfolding digitsAdded
 all-taken {n = n} {i = i} h l = let z : n - i ≡ 0 = omega arith in rw z at (l .gives)
 
 -- 7^16

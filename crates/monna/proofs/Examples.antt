@@ -8,9 +8,9 @@ use Rattle.float.specs.Ops.{bits, one, one-bits, floorOf, raised}
 use Rattle.roots.specs.Root.{sqrtOf}
 use Rattle.loops.specs.Loop.{for, turns}
 use Rattle.monna.specs.Rng.{nextState}
-use Rattle.monna.specs.Digits.{monnaOf, inverseOf, distanceOf, digits, placed, taken, clampOf, margin, times, valuation}
+use Rattle.monna.specs.Digits.{monnaOf, inverseOf, distanceOf, digits, placed, digitsAdded, clampOf, margin, times, valuation}
 use Rattle.monna.specs.Answers.{baseRefusal, digitsRefusal, historyRefusal}
-use Rattle.monna.specs.History.{differencesOf, differenceAt, cellOf, quotientOf, leastDistance, table}
+use Rattle.monna.specs.History.{differencesOf, differenceAt, withQuotient, quotientOf, leastDistance, tabulated}
 
 pub state-1 : nextState 1 ≡ 7806831264735756412
 state-1 = refl
@@ -20,7 +20,7 @@ unfolding monnaOf digits placed one ofBits round ofInt add mul div
 monna-6 = refl
 
 pub inverse-6 : inverseOf (decimal 375 3) 2 16 ≡ 6
-unfolding inverseOf taken clampOf margin one floorOf ofBits round ofInt sub mul toUnsigned lt
+unfolding inverseOf digitsAdded clampOf margin one floorOf ofBits round ofInt sub mul toUnsigned lt
 inverse-6 = refl
 
 pub monna-top : monnaOf 18446744073709551615 2 ≡ one
@@ -32,11 +32,11 @@ unfolding distanceOf valuation times raised one ofBits round ofInt mul div
 distance-8 = refl
 
 pub differences-1 : differencesOf (decimal 5 0 ∷ []) ≡ bits 0 ∷ []
-unfolding differencesOf table differenceAt for turns cellOf
+unfolding differencesOf tabulated differenceAt for turns withQuotient
 differences-1 = refl
 
 pub differences-2 : differencesOf (one ∷ bits 0 ∷ []) ≡ one ∷ neg one ∷ []
-unfolding differencesOf table differenceAt for turns cellOf quotientOf leastDistance sqrtOf distanceOf valuation times raised one ofBits round ofInt mul div sub add lt neg
+unfolding differencesOf tabulated differenceAt for turns withQuotient quotientOf leastDistance sqrtOf distanceOf valuation times raised one ofBits round ofInt mul div sub add lt neg
 differences-2 = refl
 
 -- 3^36: the repeated products are not the power's nearest
@@ -46,16 +46,16 @@ distance-3 = refl
 
 -- the inverse map of NaN is 0, and of 1.0 and above all digits are p − 1
 inverse-nan : inverseOf nan 2 16 ≡ 0
-unfolding inverseOf taken clampOf margin one floorOf ofBits round ofInt sub mul toUnsigned lt
+unfolding inverseOf digitsAdded clampOf margin one floorOf ofBits round ofInt sub mul toUnsigned lt
 inverse-nan = refl
 
 inverse-1 : inverseOf one 2 16 ≡ 65535
-unfolding inverseOf taken clampOf margin one floorOf ofBits round ofInt sub mul toUnsigned lt
+unfolding inverseOf digitsAdded clampOf margin one floorOf ofBits round ofInt sub mul toUnsigned lt
 inverse-1 = refl
 
 -- a history of one NaN has the difference 0.0
 differences-nan : differencesOf (nan ∷ []) ≡ bits 0 ∷ []
-unfolding differencesOf table differenceAt for turns cellOf
+unfolding differencesOf tabulated differenceAt for turns withQuotient
 differences-nan = refl
 
 -- bases 1, 2, 7 and 8; 16 and 17 digits; 64 and 65 numbers, and a place too few

@@ -36,10 +36,10 @@ unfoldable pub inverseMonnaMapOf : Float → ℕ → ℕ → Inverse
 inverseMonnaMapOf x p n = unless inverse.Refused (digitsRefusal p n) (inverse.Value (inverseOf x p n))
 
 -- the lent output: the differences in its first places, unless refused
-abbrev pub outOf : ℕ → List Float → List Float → List Float
-outOf zero x o = differencesOf x ++ drop (length x) o
-outOf (suc k) x o = o
+abbrev pub historyOut : ℕ → List Float → List Float → List Float
+historyOut zero x o = differencesOf x ++ drop (length x) o
+historyOut (suc k) x o = o
 
 pub record Differs (x o o′ : List Float) (r : ℕ) : Type 0 where
   pub answered : r ≡ historyRefusal (length x) (length o)
-  pub out : o′ ≡ outOf (historyRefusal (length x) (length o)) x o
+  pub out : o′ ≡ historyOut (historyRefusal (length x) (length o)) x o

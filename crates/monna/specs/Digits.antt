@@ -56,12 +56,12 @@ abbrev pub digitOf : ℕ → Float → ℕ
 digitOf p x = toUnsigned 64 (floorOf (x ⊗ num p))
 
 -- n more digits of x, modulo p and worth factor, factor×p, .., added to val
-unfoldable pub taken : ℕ → ℕ → Float → ℕ → ℕ → ℕ
-taken zero p x factor val = val
-taken (suc n) p x factor val = taken n p (x ⊗ num p ⊖ num (digitOf p x)) (factor * p) (val + digitOf p x % p * factor)
+unfoldable pub digitsAdded : ℕ → ℕ → Float → ℕ → ℕ → ℕ
+digitsAdded zero p x factor val = val
+digitsAdded (suc n) p x factor val = digitsAdded n p (x ⊗ num p ⊖ num (digitOf p x)) (factor * p) (val + digitOf p x % p * factor)
 
 unfoldable pub inverseOf : Float → ℕ → ℕ → ℕ
-inverseOf x p n = taken n p (clampOf x) 1 0
+inverseOf x p n = digitsAdded n p (clampOf x) 1 0
 
 -- ---- the p-adic distance p^−v, v being how often p divides the difference
 

@@ -30,17 +30,17 @@ quotientOf u v i j sum =
     let d = distanceOf i j 2 in
     cond (lt leastDistance d) (sum ⊕ (u ⊖ v) ⊘ (d ⊗ sqrtOf d)) sum
 
-unfoldable pub cellOf : List Float → ℕ → ℕ → Float → Float
-cellOf x i j sum = cond (eqb i j) sum (quotientOf (at x i) (at x j) i j sum)
+unfoldable pub withQuotient : List Float → ℕ → ℕ → Float → Float
+withQuotient x i j sum = cond (eqb i j) sum (quotientOf (at x i) (at x j) i j sum)
 
 unfoldable pub differenceAt : List Float → ℕ → Float
-differenceAt x i = for 0 (length x) (cellOf x i) (bits 0)
+differenceAt x i = for 0 (length x) (withQuotient x i) (bits 0)
 
 -- f 0, f 1, .., f (n − 1)
-unfoldable pub table : ℕ → (ℕ → Float) → List Float
-table zero f = []
-table (suc n) f = table n f ++ f n ∷ []
+unfoldable pub tabulated : ℕ → (ℕ → Float) → List Float
+tabulated zero f = []
+tabulated (suc n) f = tabulated n f ++ f n ∷ []
 
 -- A history of one number has the difference 0.0, whatever the number.
 unfoldable pub differencesOf : List Float → List Float
-differencesOf x = table (length x) (differenceAt x)
+differencesOf x = tabulated (length x) (differenceAt x)

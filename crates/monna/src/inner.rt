@@ -3,7 +3,7 @@ ghost use mathlib.Core.Path.{_≡_};
 ghost use Prim.Native.Nat.{_<_, _≤_};
 ghost use lib.ListN.{length};
 ghost use Rattle.monna.specs.Digits.{Base, monnaOf, inverseOf, clampOf, gap, distanceOf, normalizedAt};
-ghost use Rattle.monna.specs.History.{quotientOf, cellOf, differenceAt, differencesOf};
+ghost use Rattle.monna.specs.History.{quotientOf, withQuotient, differenceAt, differencesOf};
 
 pub fn monna_value(val: u64, p: u64) -> f64
     requires { ⌜ Base p ⌝ }
@@ -98,7 +98,7 @@ fn quotient(u: f64, v: f64, i: usize, j: usize, sum: f64) -> f64
 
 fn cell(x: &[f64], i: usize, j: usize, sum: f64) -> f64
     requires { ⌜ (i < length (now x)) × (j < length (now x)) ⌝ }
-    ensures { λ r. ⌜ r ≡ cellOf (now (x .entry)) i j sum ⌝ }
+    ensures { λ r. ⌜ r ≡ withQuotient (now (x .entry)) i j sum ⌝ }
 {
     if i == j {
         return sum;

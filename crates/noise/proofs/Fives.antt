@@ -15,7 +15,7 @@ use Rattle.moment.specs.Sample.{timeInRange, instantAt}
 use Rattle.moment.specs.declared.Instant.{Instant}
 use Rattle.moment.proofs.Samples.{instant-counts}
 use Rattle.pass_set.specs.PassSet.{sizesAgree}
-use Rattle.noise.specs.Noise.{betweenOf, secondsAt, productsAt, apartOf, weightsOf, frequenciesAt, differenceOf, sizeOf, noiseAt, withNoise, windowOf, windowsOf, passOf, withPass, opening, estimateOf}
+use Rattle.noise.specs.Noise.{betweenOf, secondsAt, productsAt, apartOf, weightsOf, frequenciesAt, differenceOf, weightSize, noiseAt, withNoise, windowOf, windowsOf, passSums, withPass, openSums, estimateOf}
 use Rattle.noise.specs.declared.Five.{Five}
 use Rattle.noise.specs.declared.Sums.{Sums}
 
@@ -61,7 +61,7 @@ module _ (times : List ℤ) (freqs : List Float) (k : ℕ) (s : Sums) {p : Five}
   unfolding windowOf
   like h = let t : apartOf (productsAt times k) ≡ false = ap apartOf (sym ep) ∙ sym ea ∙ not-true a h in rw t
 
-  pub unlike : not a ≡ false → {w f : Five} → w ≡ weightsOf p → f ≡ frequenciesAt freqs k → {d z : Float} → d ≡ differenceOf w f → z ≡ sizeOf w
+  pub unlike : not a ≡ false → {w f : Five} → w ≡ weightsOf p → f ≡ frequenciesAt freqs k → {d z : Float} → d ≡ differenceOf w f → z ≡ weightSize w
       → record { squares = s .squares ⊕ (d ⊘ z) ⊗ (d ⊘ z); windows = s .windows ⊕ one; at = s .at } ≡ windowOf times freqs k s
   unfolding windowOf withNoise noiseAt
   unlike h ew ef ed ez =
@@ -71,13 +71,13 @@ module _ (times : List ℤ) (freqs : List Float) (k : ℕ) (s : Sums) {p : Five}
 -- ---- a pass
 
 module _ (times : List ℤ) (freqs : List Float) (n : ℕ) (s : Sums) where
-  pub few : n < 5 → record { squares = s .squares; windows = s .windows; at = s .at + n } ≡ passOf times freqs n s
-  unfolding passOf
+  pub few : n < 5 → record { squares = s .squares; windows = s .windows; at = s .at + n } ≡ passSums times freqs n s
+  unfolding passSums
   few h = rw (lt-ltb n 5 h)
 
   pub many : 5 ≤ n → {w : Sums} → w ≡ windowsOf times freqs (s .at) (s .at + n - 4) s
-      → record { squares = w .squares; windows = w .windows; at = s .at + n } ≡ passOf times freqs n s
-  unfolding passOf
+      → record { squares = w .squares; windows = w .windows; at = s .at + n } ≡ passSums times freqs n s
+  unfolding passSums
   many h e = rw (le-ltb n 5 h, e)
 
 -- ---- all passes
@@ -87,7 +87,7 @@ module _ (counts : List ℕ) (times : List ℤ) (freqs : List Float) {a : Bool} 
   unfolding estimateOf
   disagree h = let t = sym ea ∙ not-true a h in rw t
 
-  pub agree : not a ≡ false → {s : Sums} {r : Float} → s ≡ for 0 (length counts) (withPass counts times freqs) opening → r ≡ sqrtOf (s .squares ⊘ s .windows)
+  pub agree : not a ≡ false → {s : Sums} {r : Float} → s ≡ for 0 (length counts) (withPass counts times freqs) openSums → r ≡ sqrtOf (s .squares ⊘ s .windows)
       → r ≡ estimateOf counts times freqs
   unfolding estimateOf
   agree h es er = let t = sym ea ∙ not-false a h in rw (t, er, es)

@@ -72,12 +72,12 @@ unfoldable pub differenceOf : Five → Five → Float
 differenceOf w f = w .a ⊗ f .a ⊕ w .b ⊗ f .b ⊕ w .c ⊗ f .c ⊕ w .d ⊗ f .d ⊕ w .e ⊗ f .e
 
 -- √ Σ w²
-unfoldable pub sizeOf : Five → Float
-sizeOf w = sqrtOf (w .a ⊗ w .a ⊕ w .b ⊗ w .b ⊕ w .c ⊗ w .c ⊕ w .d ⊗ w .d ⊕ w .e ⊗ w .e)
+unfoldable pub weightSize : Five → Float
+weightSize w = sqrtOf (w .a ⊗ w .a ⊕ w .b ⊗ w .b ⊕ w .c ⊗ w .c ⊕ w .d ⊗ w .d ⊕ w .e ⊗ w .e)
 
 -- the noise of the five samples from k on
 unfoldable pub noiseAt : List ℤ → List Float → ℕ → Float
-noiseAt times freqs k = let w = weightsOf (productsAt times k) in differenceOf w (frequenciesAt freqs k) ⊘ sizeOf w
+noiseAt times freqs k = let w = weightsOf (productsAt times k) in differenceOf w (frequenciesAt freqs k) ⊘ weightSize w
 
 -- its square added, and the window counted
 unfoldable pub withNoise : Float → Sums → Sums
@@ -91,22 +91,22 @@ unfoldable pub windowsOf : List ℤ → List Float → ℕ → ℕ → Sums → 
 windowsOf times freqs at end s = for at end (windowOf times freqs) s
 
 -- a pass of n samples more: n − 4 windows
-unfoldable pub passOf : List ℤ → List Float → ℕ → Sums → Sums
-passOf times freqs n s =
+unfoldable pub passSums : List ℤ → List Float → ℕ → Sums → Sums
+passSums times freqs n s =
     let w = cond (ltb n 5) s (windowsOf times freqs (s .at) (s .at + n - 4) s) in
     record { squares = w .squares; windows = w .windows; at = s .at + n }
 
 abbrev pub withPass : List ℕ → List ℤ → List Float → ℕ → Sums → Sums
-withPass counts times freqs p s = passOf times freqs (getD counts p 0) s
+withPass counts times freqs p s = passSums times freqs (getD counts p 0) s
 
-abbrev pub opening : Sums
-opening = record { squares = bits 0; windows = bits 0; at = 0 }
+abbrev pub openSums : Sums
+openSums = record { squares = bits 0; windows = bits 0; at = 0 }
 
 -- 0/0 where there is no window
-abbrev pub meanRoot : Sums → Float
-meanRoot s = sqrtOf (s .squares ⊘ s .windows)
+abbrev pub windowRoot : Sums → Float
+windowRoot s = sqrtOf (s .squares ⊘ s .windows)
 
 -- over all passes, where the sizes agree with the arrays
 unfoldable pub estimateOf : List ℕ → List ℤ → List Float → Float
 estimateOf counts times freqs =
-    cond (sizesAgree counts (length times) (length freqs) (length counts)) (meanRoot (for 0 (length counts) (withPass counts times freqs) opening)) nan
+    cond (sizesAgree counts (length times) (length freqs) (length counts)) (windowRoot (for 0 (length counts) (withPass counts times freqs) openSums)) nan

@@ -4,7 +4,7 @@ ghost use mathlib.Core.Path.{_≡_};
 ghost use Prim.Native.Nat.{_≤_, _+_};
 ghost use lib.Ieee.{nan};
 ghost use lib.ListN.{getD};
-ghost use Rattle.noise.specs.Noise.{betweenOf, secondsAt, momentsAt, productOf, productsOf, productsAt, apartOf, weightsOf, frequenciesAt, differenceOf, sizeOf, windowOf, windowsOf, passOf, estimateOf};
+ghost use Rattle.noise.specs.Noise.{betweenOf, secondsAt, momentsAt, productOf, productsOf, productsAt, apartOf, weightsOf, frequenciesAt, differenceOf, weightSize, windowOf, windowsOf, passSums, estimateOf};
 ghost use Rattle.noise.specs.Verdict.{boundOf, ratioOf, verdictOf};
 
 // A number for each of five neighbouring samples.
@@ -160,7 +160,7 @@ fn difference(w: Five, f: Five) -> f64
 }
 
 fn size(w: Five) -> f64
-    ensures { λ r. ⌜ r ≡ sizeOf w ⌝ }
+    ensures { λ r. ⌜ r ≡ weightSize w ⌝ }
 {
     roots::sqrt(w.a * w.a + w.b * w.b + w.c * w.c + w.d * w.d + w.e * w.e)
 }
@@ -198,7 +198,7 @@ fn windows(times: &[i64], freqs: &[f64], at: usize, end: usize, s: Sums) -> Sums
 // A pass of n samples more.
 fn pass(times: &[i64], freqs: &[f64], n: u32, s: Sums) -> Sums
     requires { ⌜ s .at ≤ 68719476720 ⌝ }
-    ensures { λ r. ⌜ (r ≡ passOf (now (times .entry)) (now (freqs .entry)) n s) × (r .at ≤ s .at + 4294967295) ⌝ }
+    ensures { λ r. ⌜ (r ≡ passSums (now (times .entry)) (now (freqs .entry)) n s) × (r .at ≤ s .at + 4294967295) ⌝ }
 {
     let at = s.at;
     let end = at + n as usize;

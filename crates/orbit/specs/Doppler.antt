@@ -3,7 +3,7 @@ use Prim.Native.Nat.{ℕ}
 use mathlib.Core.Path.{_≡_}
 use mathlib.Core.Bool.{cond, not, _&&_}
 use mathlib.Core.List.{[], _∷_}
-use lib.Ieee.{Float, neg, lt, toSigned}
+use lib.Ieee.{Float, neg, lt, toSigned, nan}
 use Rattle.float.specs.Constant.{decimal}
 use Rattle.float.specs.Ops.{_⊕_, _⊖_, _⊗_, _⊘_, one}
 use Rattle.float.specs.declared.trig.SinCos.{SinCos}
@@ -11,7 +11,7 @@ use Rattle.roots.specs.Root.{sqrtOf}
 use Rattle.refusal.specs.Numbers as refusal
 use Rattle.refusal.specs.Order.{first, _if_, unless}
 use Rattle.moment.specs.Time.{secondsOf, nanosOf, movedOf, overOf, tauOf, tauMillisOf, million}
-use Rattle.moment.specs.Range.{taken, countOf}
+use Rattle.moment.specs.Range.{taken, momentCount}
 use Rattle.moment.specs.declared.Moment.{Moment}
 use Rattle.frame.specs.declared.State.{State}
 use Rattle.frame.specs.declared.Vec3.{Vec3}
@@ -100,7 +100,7 @@ stationAt epoch centre p = record { epoch = record { secs = secondsOf (epoch .se
 unfoldable pub predictFrequencyOf : (a i raan0 u0 : Float) (epoch tObs : Moment) (dt df centre : Float) (p : Vec3) → Prediction
 predictFrequencyOf a i raan0 u0 epoch tObs dt df centre p =
     unless Refused (first ((refusal.moment-range if not (taken epoch && taken tObs)) ∷ []))
-    (predictedOf (stationAt epoch centre p) (record { a = a; i = i; raan0 = raan0; u0 = u0 }) (countOf tObs) (turnOf tObs) dt df df)
+    (predictedOf (stationAt epoch centre p) (record { a = a; i = i; raan0 = raan0; u0 = u0 }) (momentCount tObs) (turnOf tObs) dt df df)
 
 unfoldable pub biasOf : DfPoly → Float → Float
 biasOf d tau = d .0 ⊕ d .1 ⊗ tau ⊕ d .2 ⊗ tau ⊗ tau
@@ -108,4 +108,9 @@ biasOf d tau = d .0 ⊕ d .1 ⊗ tau ⊕ d .2 ⊗ tau ⊗ tau
 unfoldable pub predictFrequencyPolyOf : (a i raan0 u0 : Float) (epoch tObs : Moment) (dt : Float) (d : DfPoly) (tRef : Moment) (centre : Float) (p : Vec3) → Prediction
 predictFrequencyPolyOf a i raan0 u0 epoch tObs dt d tRef centre p =
     unless Refused (first ((refusal.moment-range if not (taken epoch && taken tObs && taken tRef)) ∷ []))
-    (predictedOf (stationAt epoch centre p) (record { a = a; i = i; raan0 = raan0; u0 = u0 }) (countOf tObs) (turnOf tObs) dt (d .0) (biasOf d (tauMillisOf (countOf tObs) (countOf tRef))))
+    (predictedOf (stationAt epoch centre p) (record { a = a; i = i; raan0 = raan0; u0 = u0 }) (momentCount tObs) (turnOf tObs) dt (d .0) (biasOf d (tauMillisOf (momentCount tObs) (momentCount tRef))))
+
+-- a prediction's frequency; NaN, where it is refused
+abbrev pub frequencyOf : Prediction → Float
+frequencyOf (Frequency v) = v
+frequencyOf (Refused n) = nan

@@ -10,7 +10,7 @@ use Rattle.float.specs.Trig.{sinOf, cosOf}
 use Rattle.refusal.specs.Numbers as refusal
 use Rattle.refusal.specs.Order.{first, _if_, unless}
 use Rattle.moment.specs.Time.{secondsOf, tauOf}
-use Rattle.moment.specs.Range.{taken, countOf}
+use Rattle.moment.specs.Range.{taken, momentCount}
 use Rattle.moment.specs.declared.Moment.{Moment}
 use Rattle.frame.specs.Rotation.{rotatedOf, turnAt}
 use Rattle.roots.specs.Root.{sqrtOf}
@@ -104,4 +104,4 @@ turnOf m = turnAt (secondsOf (m .seconds)) (m .nanos)
 unfoldable pub propagateEcefOf : (a i raan0 u0 : Float) (epoch tOrbit tRotate : Moment) → Ecef
 propagateEcefOf a i raan0 u0 epoch tOrbit tRotate =
     unless Refused (first ((refusal.moment-range if not (taken epoch && taken tOrbit && taken tRotate)) ∷ []))
-    (At (ecefAt a i raan0 u0 (tauOf (countOf tOrbit) (countOf epoch)) (turnOf tRotate)))
+    (At (ecefAt a i raan0 u0 (tauOf (momentCount tOrbit) (momentCount epoch)) (turnOf tRotate)))

@@ -19,9 +19,9 @@ use Rattle.decimal.specs.declared.read.Number.the-variants as Num
 use Rattle.rfc3339.specs.Rfc3339.{dateTimeOf}
 use Rattle.rfc3339.specs.declared.Timestamp.{Timestamp}
 use Rattle.rfc3339.specs.declared.Timestamp.the-variants as Time
-use Rattle.passes.specs.Text.{Placed, push, startsLf, lines, blank, blanks, keep, trimEnd, trim, until, ascii}
+use Rattle.passes.specs.Text.{Placed, push, startsLf, lines, blank, blanks, keepTrimmed, trimEnd, trim, until, ascii}
 use Rattle.refusal.specs.Numbers as refusal
-use Rattle.passes.specs.Line.{inside, since1970, sampleOf, pairOf, fields, sample, centerOf, named, header, trimmedLine, lineOf}
+use Rattle.passes.specs.Line.{inside, since1970, sampleOf, pairOf, fields, sample, centerLine, named, header, trimmedLine, lineOf}
 use Rattle.passes.specs.File.{opening, zeros, advance, after, scanned, passFileRefusal, answer, nameOf, Reads}
 use Rattle.passes.specs.Called.{valueOf, headed, calledIn, later, lastCalled, partOf}
 use Rattle.passes.specs.declared.line.Line.{Line}
@@ -59,7 +59,7 @@ part-take {l = l} {s = s} {t = t} n h p =
     }
 
 end-prefix : (l : List ℕ) → take (length (trimEnd l)) l ≡ trimEnd l
-unfolding trimEnd keep
+unfolding trimEnd keepTrimmed
 end-prefix [] = refl
 end-prefix (c ∷ l) = go (trimEnd l) (end-prefix l)
   where
@@ -67,7 +67,7 @@ end-prefix (c ∷ l) = go (trimEnd l) (end-prefix l)
     one true = refl
     one false = refl
 
-    go : (m : List ℕ) → take (length m) l ≡ m → take (length (keep c m)) (c ∷ l) ≡ keep c m
+    go : (m : List ℕ) → take (length m) l ≡ m → take (length (keepTrimmed c m)) (c ∷ l) ≡ keepTrimmed c m
     go [] h = one (blank c)
     go (b ∷ m) h = ap (λ (x : List ℕ). c ∷ x) h
 
@@ -119,7 +119,7 @@ module _ (l : List ℕ) where
   unfolding sample fields
   sample-tells t = pick (eqb (until 44 t) (length t)) Skipped (fields (take (until 44 t) t) (drop (until 44 t + 1) t)) refl (pair-tells (dateTimeOf (take (until 44 t) t)) (number (take (until 44 (drop (until 44 t + 1) t)) (drop (until 44 t + 1) t))))
 
-  center-tells : (v : Number) → Tells l (centerOf v) none
+  center-tells : (v : Number) → Tells l (centerLine v) none
   center-tells Num.Nothing = refl
   center-tells (Num.Value f) = refl
   center-tells Num.Refused = refl
@@ -130,9 +130,9 @@ module _ (l : List ℕ) where
   named-tells key s v p = go (spells key (bytes "satellite_name"))
       (spells key (bytes "center_frequency"))
     where
-      go : (b d : Bool) → Tells l (cond b (Name (s + blanks v) (s + (blanks v + length (trim v)))) (cond d (centerOf (number (trim v))) Skipped)) (cond b (some (trim v)) none)
+      go : (b d : Bool) → Tells l (cond b (Name (s + blanks v) (s + (blanks v + length (trim v)))) (cond d (centerLine (number (trim v))) Skipped)) (cond b (some (trim v)) none)
       go true d = (trim v, refl, part-trim p, omega arith)
-      go false d = pick d (centerOf (number (trim v))) Skipped (center-tells (number (trim v))) refl
+      go false d = pick d (centerLine (number (trim v))) Skipped (center-tells (number (trim v))) refl
 
   header-tells : (s : ℕ) (h : List ℕ) → Part l s h → Tells l (header s h) (valueOf h)
   unfolding header valueOf

@@ -14,7 +14,7 @@ use lib.Seq.{sets, sets-eq, length-sets, drop-cons, drop-drop, length-take-le, t
 use borrow.Author.Tests.{eq-eqb, ne-eqb, eqb-false}
 use Rattle.passes.specs.Text.{Placed, lines, Cut}
 use Rattle.passes.specs.Line.{lineOf}
-use Rattle.passes.specs.File.{opening, advance, after, timeBefore, freqBefore, timesOf, freqsOf, scanned, Ready, Stepped, Stored, Scan}
+use Rattle.passes.specs.File.{opening, advance, after, timeBefore, freqBefore, timesOf, freqsOf, scanned, BeforeLine, Stepped, Stored, Scan}
 use Rattle.passes.specs.declared.line.Line.{Line}
 use Rattle.passes.specs.declared.line.Line.the-variants.{Skipped, Refusal, Name, Center, Sample}
 use Rattle.passes.specs.declared.file.PassFile.{PassFile}
@@ -172,7 +172,7 @@ scanning-start {file = file} {times = times} {freqs = freqs} h e =
       long-freqs = refl;
     }
 
-pub scanning-ready : {file : List ℕ} {times₀ times : List ℤ} {freqs₀ freqs : List Float} {at n next : ℕ} {s : PassFile} → Scanning file times₀ freqs₀ at s times freqs → LineAt file at n next → Ready file at n s times freqs
+pub scanning-ready : {file : List ℕ} {times₀ times : List ℤ} {freqs₀ freqs : List Float} {at n next : ℕ} {s : PassFile} → Scanning file times₀ freqs₀ at s times freqs → LineAt file at n next → BeforeLine file at n s times freqs
 scanning-ready a l = let i = l .inside in let z = l .size in record { room = omega arith; count = a .read .count; same = a .same }
 
 module _ {file : List ℕ} {times₀ times times′ : List ℤ} {freqs₀ freqs freqs′ : List Float} {at n next : ℕ} {s r : PassFile}

@@ -13,8 +13,8 @@ use Rattle.decimal.specs.declared.read.Number.the-variants as Num
 use Rattle.rfc3339.specs.Rfc3339.{dateTimeOf}
 use Rattle.rfc3339.specs.declared.Timestamp.{Timestamp}
 use Rattle.rfc3339.specs.declared.Timestamp.the-variants as Time
-use Rattle.passes.specs.Text.{blank, blanks, keep, trimEnd, trim, until, ascii}
-use Rattle.passes.specs.Line.{inside, sampleOf, pairOf, fields, sample, centerOf, named, header, trimmedLine, lineOf}
+use Rattle.passes.specs.Text.{blank, blanks, keepTrimmed, trimEnd, trim, until, ascii}
+use Rattle.passes.specs.Line.{inside, sampleOf, pairOf, fields, sample, centerLine, named, header, trimmedLine, lineOf}
 use Rattle.passes.specs.declared.line.Line.{Line}
 use Rattle.passes.specs.declared.line.Line.the-variants.{Skipped, Refusal, Name, Center, Sample}
 
@@ -49,7 +49,7 @@ blanks-most (c ∷ l) = go (blank c) (blanks-most l)
     go false h = omega arith
 
 pub end-most : (l : List ℕ) → length (trimEnd l) ≤ length l
-unfolding trimEnd keep
+unfolding trimEnd keepTrimmed
 end-most [] = omega arith
 end-most (c ∷ l) = go (trimEnd l) (end-most l)
   where
@@ -57,7 +57,7 @@ end-most (c ∷ l) = go (trimEnd l) (end-most l)
     one true = omega arith
     one false = omega arith
 
-    go : (m : List ℕ) → length m ≤ length l → length (keep c m) ≤ suc (length l)
+    go : (m : List ℕ) → length m ≤ length l → length (keepTrimmed c m) ≤ suc (length l)
     go [] h = omega (arith, one (blank c))
     go (b ∷ m) h = omega arith
 
@@ -97,7 +97,7 @@ module _ (n : ℕ) where
   unfolding sample fields
   sample-in t = pick (eqb (until 44 t) (length t)) skipped-in (pair-in (dateTimeOf (take (until 44 t) t)) (number (take (until 44 (drop (until 44 t + 1) t)) (drop (until 44 t + 1) t))))
 
-  center-in : (v : Number) → Within n (centerOf v)
+  center-in : (v : Number) → Within n (centerLine v)
   center-in Num.Nothing = record { order = omega arith; inside = omega arith }
   center-in (Num.Value f) = record { order = omega arith; inside = omega arith }
   center-in Num.Refused = record { order = omega arith; inside = omega arith }

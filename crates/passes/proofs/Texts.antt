@@ -9,7 +9,7 @@ use lib.ListN.{length, getD, take, drop, drop-of-length-le, length-drop}
 use lib.Seq.{drop-cons, take-suc, length-take-le}
 use borrow.Author.Tests.{eq-eqb, ne-eqb, le-leb, lt-leb}
 use Rattle.laws.proofs.Lists.{rest}
-use Rattle.passes.specs.Text.{blank, blanks, keep, trimEnd, trim, until, ascii, Trimmed, Blanks, Ends}
+use Rattle.passes.specs.Text.{blank, blanks, keepTrimmed, trimEnd, trim, until, ascii, Trimmed, Blanks, TrimsTo}
 
 module _ (l : List ℕ) (i : ℕ) (h : i < length l) where
   here : drop i l ≡ getD l i 0 ∷ drop (i + 1) l
@@ -53,17 +53,17 @@ blanks-end l i h = ap blanks (drop-of-length-le l h)
 
 -- ---- from the end
 
-keep-snoc : (a : ℕ) (l : List ℕ) (c : ℕ) → keep a (l ++ (c ∷ [])) ≡ a ∷ (l ++ (c ∷ []))
-unfolding keep
+keep-snoc : (a : ℕ) (l : List ℕ) (c : ℕ) → keepTrimmed a (l ++ (c ∷ [])) ≡ a ∷ (l ++ (c ∷ []))
+unfolding keepTrimmed
 keep-snoc a [] c = refl
 keep-snoc a (x ∷ l) c = refl
 
 end-snoc : (l : List ℕ) (c : ℕ) → trimEnd (l ++ (c ∷ [])) ≡ cond (blank c) (trimEnd l) (l ++ (c ∷ []))
-unfolding trimEnd keep
+unfolding trimEnd keepTrimmed
 end-snoc [] c = refl
-end-snoc (a ∷ l) c = ap (keep a) (end-snoc l c) ∙ go (blank c)
+end-snoc (a ∷ l) c = ap (keepTrimmed a) (end-snoc l c) ∙ go (blank c)
   where
-    go : (b : Bool) → keep a (cond b (trimEnd l) (l ++ (c ∷ []))) ≡ cond b (keep a (trimEnd l)) (a ∷ (l ++ (c ∷ [])))
+    go : (b : Bool) → keepTrimmed a (cond b (trimEnd l) (l ++ (c ∷ []))) ≡ cond b (keepTrimmed a (trimEnd l)) (a ∷ (l ++ (c ∷ [])))
     go true = refl
     go false = keep-snoc a l c
 
@@ -84,7 +84,7 @@ end-end l (suc e) h = absurd (omega arith)
 
 -- ---- parts
 
-pub trimmed : {l : List ℕ} {s e : ℕ} → Blanks l s → Ends (take (length l - s) (drop s l)) e → Trimmed l s (s + e)
+pub trimmed : {l : List ℕ} {s e : ℕ} → Blanks l s → TrimsTo (take (length l - s) (drop s l)) e → Trimmed l s (s + e)
 unfolding trim
 trimmed {l = l} {s = s} {e = e} a b =
     let r = rest l s in

@@ -85,7 +85,7 @@ nameOf file r =
     (cond (ltb (r .«name_end») (r .«name_start»)) [] (take (r .«name_end» - r .«name_start») (drop (r .«name_start») file)))
 
 -- before a line of n bytes at a place
-pub record Ready (file : List ℕ) (at n : ℕ) (s : PassFile) (times : List ℤ) (freqs : List Float) : Type 0 where
+pub record BeforeLine (file : List ℕ) (at n : ℕ) (s : PassFile) (times : List ℤ) (freqs : List Float) : Type 0 where
   pub room : at + n ≤ length file
   pub count : s .count ≤ at
   pub same : length times ≡ length freqs

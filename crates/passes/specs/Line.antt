@@ -44,16 +44,16 @@ fields a r = pairOf (dateTimeOf a) (number (take (until (code ",") r) r))
 unfoldable pub sample : List ℕ → Line
 sample t = let k = until (code ",") t in cond (eqb k (length t)) Skipped (fields (take k t) (drop (k + 1) t))
 
-abbrev pub centerOf : Number → Line
-centerOf Num.Nothing = Skipped
-centerOf (Num.Value f) = Center f
-centerOf Num.Refused = Refusal refusal.number-size
+abbrev pub centerLine : Number → Line
+centerLine Num.Nothing = Skipped
+centerLine (Num.Value f) = Center f
+centerLine Num.Refused = Refusal refusal.number-size
 
 -- satellite_name, center_frequency: in any case of their letters. The value v, not yet trimmed, stands at s in the line.
 unfoldable pub named : List ℕ → ℕ → List ℕ → Line
 named key s v =
     cond (spells key (bytes "satellite_name")) (Name (s + blanks v) (s + (blanks v + length (trim v))))
-    (cond (spells key (bytes "center_frequency")) (centerOf (number (trim v))) Skipped)
+    (cond (spells key (bytes "center_frequency")) (centerLine (number (trim v))) Skipped)
 
 -- what stands at s behind a header's #: key, colon, value
 unfoldable pub header : ℕ → List ℕ → Line

@@ -38,13 +38,13 @@ blanks [] = 0
 blanks (c ∷ l) = cond (blank c) (suc (blanks l)) 0
 
 -- c before what is left of a list: a blank before nothing goes too
-unfoldable pub keep : ℕ → List ℕ → List ℕ
-keep c [] = cond (blank c) [] (c ∷ [])
-keep c (b ∷ l) = c ∷ b ∷ l
+unfoldable pub keepTrimmed : ℕ → List ℕ → List ℕ
+keepTrimmed c [] = cond (blank c) [] (c ∷ [])
+keepTrimmed c (b ∷ l) = c ∷ b ∷ l
 
 unfoldable pub trimEnd : List ℕ → List ℕ
 trimEnd [] = []
-trimEnd (c ∷ l) = keep c (trimEnd l)
+trimEnd (c ∷ l) = keepTrimmed c (trimEnd l)
 
 -- without the blanks at both ends
 unfoldable pub trim : List ℕ → List ℕ
@@ -72,7 +72,7 @@ pub record Blanks (l : List ℕ) (s : ℕ) : Type 0 where
   pub inside : s ≤ length l
   pub is : s ≡ blanks l
 
-pub record Ends (l : List ℕ) (e : ℕ) : Type 0 where
+pub record TrimsTo (l : List ℕ) (e : ℕ) : Type 0 where
   pub inside : e ≤ length l
   pub is : take e l ≡ trimEnd l
 

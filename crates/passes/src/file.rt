@@ -74,7 +74,7 @@ fn step(
     times: &mut [i64],
     freqs: &mut [f64],
 ) -> PassFile
-    requires { ⌜ File.Ready (now file) at n s (now times) (now freqs) ⌝ }
+    requires { ⌜ File.BeforeLine (now file) at n s (now times) (now freqs) ⌝ }
     ensures { λ r. ⌜ File.Stepped (now (file .entry)) at n s (now (times .entry)) (now (times .exit)) (now (freqs .entry)) (now (freqs .exit)) r ⌝ }
 {
     let e = at + n;

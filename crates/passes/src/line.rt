@@ -95,7 +95,7 @@ fn sample(t: &[u8]) -> Line
 }
 
 fn center_of(v: Number) -> Line
-    ensures { λ r. ⌜ r ≡ Spec.centerOf v ⌝ }
+    ensures { λ r. ⌜ r ≡ Spec.centerLine v ⌝ }
 {
     match v {
         Number::Nothing => Line::Skipped,

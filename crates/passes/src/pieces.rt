@@ -44,7 +44,7 @@ fn trim_start(l: &[u8]) -> usize
 
 // Where the last byte that is no blank ends.
 fn trim_end(l: &[u8]) -> usize
-    ensures { λ r. ⌜ Text.Ends (now (l .entry)) r ⌝ }
+    ensures { λ r. ⌜ Text.TrimsTo (now (l .entry)) r ⌝ }
 {
     let mut e = l.len();
     while 0 < e {

@@ -19,11 +19,11 @@ use Rattle.moment.specs.Time.{Sound}
 use Rattle.moment.proofs.Samples.{timed}
 use Rattle.pass_set.specs.PassSet.{sizesAgree}
 use Rattle.pass_set.proofs.Laws as laws
-use Rattle.approach.specs.Turns.{PassSet}
+use Rattle.approach.specs.Turns.{SoundSet}
 use Rattle.float.specs.Ops.{bits}
 use Rattle.search.specs.declared.Found.{Found}
 use Rattle.orbit.specs.declared.doppler.Station.{Station}
-use Rattle.residuals.specs.Samples.{Passes, countsAt, passesOf, Dated, Rotations, Samples}
+use Rattle.residuals.specs.Samples.{Passes, countsAt, passesOf, DatedTimes, Rotations, Samples}
 use Rattle.residuals.specs.Residuals.{placeOf, rowsOf, penalisedSum, each, sumOf}
 use Rattle.residuals.specs.Answers as residuals
 use Rattle.residuals.specs.Residuals as residuals-of
@@ -36,12 +36,12 @@ use Rattle.book.specs.Book.{Search, After, Book, compared, arrival, onward, not
 use Rattle.book.specs.declared.Ending.{Ending}
 use Rattle.book.specs.declared.Ending.the-variants.{Running, Refused as RefusedEnd, Short, Damped, Converged}
 use Rattle.refine.proofs.Advances.{places-few, rows-fit}
-use Rattle.trials.specs.Trials.{Fits, stateSearch, stateAfter, rowsIn, below}
+use Rattle.trials.specs.Trials.{TrialsAsk, stateSearch, stateAfter, rowsIn, below}
 use Rattle.trials.specs.Trials as trials
 use Rattle.trials.specs.declared.State.{State}
 use Rattle.trials.specs.declared.Tried as trials-tried
 use Rattle.trials.proofs.Laws.{kept-set}
-use Rattle.probes.specs.Call.{probeRefusal, cleared, epochOf, Searches, Accepted, Prepared, Sums, bookWith, bookAfter, enoughOf, trialOf, isRunning, trialRefusal, zeroState, endingRefusal, stateUnless, Tries}
+use Rattle.probes.specs.Call.{probeRefusal, cleared, firstEpoch, Searches, SetAccepted, Prepared, Sums, bookWith, bookAfter, enoughOf, trialOf, isRunning, trialRefusal, zeroState, endingRefusal, stateUnless, TrialCall}
 use Rattle.probes.specs.declared.Tried.{Tried}
 
 -- ---- no refusal before the work
@@ -72,7 +72,7 @@ taken counts times freqs centres room least e =
       enough = ltb-false room least (s .2);
     }
 
-pub set-of : (counts : List ℕ) (times : List ℤ) (freqs centers : List Float) (room least : ℕ) → Taken counts times freqs (length centers) room least → PassSet counts times freqs centers
+pub set-of : (counts : List ℕ) (times : List ℤ) (freqs centers : List Float) (room least : ℕ) → Taken counts times freqs (length centers) room least → SoundSet counts times freqs centers
 set-of counts times freqs centers room least t = record { sizes = laws.sizes (t .agree); timed = t .timed }
 
 -- ---- the first of a list that may be empty
@@ -85,7 +85,7 @@ pub first-none : (l : List Float) (d : Float) → length l ≡ 0 → d ≡ getD 
 first-none [] d h = refl
 first-none (x ∷ l) d h = absurd (omega (arith, h))
 
-pub no-epoch : (times : List ℤ) → length times ≡ 0 → instantAt (pos 0) ≡ epochOf times
+pub no-epoch : (times : List ℤ) → length times ≡ 0 → instantAt (pos 0) ≡ firstEpoch times
 no-epoch [] h = refl
 no-epoch (t ∷ ts) h = absurd (omega (arith, h))
 
@@ -102,14 +102,14 @@ found (suc n) g f table out m h e l z = absurd (omega (arith, h))
 
 -- ---- samples that are prepared
 
-pub samples-of : (g : Station) (counts times : List ℕ) (freqs turns : List Float) → Accepted counts (length times) (length freqs)
+pub samples-of : (g : Station) (counts times : List ℕ) (freqs turns : List Float) → SetAccepted counts (length times) (length freqs)
     → Sound (g .epoch .secs) (g .epoch .nanos) → Rotations times turns → Samples g (passesOf counts times freqs) turns
 samples-of g counts times freqs turns a s r =
     let z = laws.sizes (a .agree) in
     record { epoch = s; few = z .few; small = z .small; whole = z .whole; pairs = z .pairs; turned = r }
 
 pub fits-of : (second : Bool) (g : Station) (counts times : List ℕ) (freqs turns : List Float) (room : ℕ) → Samples g (passesOf counts times freqs) turns
-    → 281792 ≤ room → Fits second g (passesOf counts times freqs) turns room
+    → 281792 ≤ room → TrialsAsk second g (passesOf counts times freqs) turns room
 fits-of second g counts times freqs turns room s h =
     let p = places-few second (length counts) (s .few) in
     let r = rows-fit second (length times) (length counts) in
@@ -124,7 +124,7 @@ fits-of second g counts times freqs turns room s h =
 pub counted : (times : List ℤ) (out : List ℕ) → length out ≡ length times → take (length times) out ≡ countsAt times → out ≡ countsAt times
 counted times out l e = sym (take-all (length times) out (le-of-eq l)) ∙ e
 
-pub counted-dated : (times : List ℤ) (out : List ℕ) → Timed times → length out ≡ length times → take (length times) out ≡ countsAt times → Dated out
+pub counted-dated : (times : List ℤ) (out : List ℕ) → Timed times → length out ≡ length times → take (length times) out ≡ countsAt times → DatedTimes out
 counted-dated times out t l e = rw (counted times out l e) (counts-dated times t)
 
 pub part-length : {times : List ℤ} {xs : List ℕ} {turns : List Float} → Prepared times xs turns → length xs ≡ length times
@@ -138,7 +138,7 @@ pub part-counts : {times : List ℤ} {xs : List ℕ} {turns : List Float} (ys : 
 part-counts ys p = part ys p ∙ p .counts
 
 pub part-taken : {times : List ℤ} {xs : List ℕ} {turns : List Float} (counts : List ℕ) (freqs : ℕ) (ys : List ℕ)
-    → sizesAgree counts (length times) freqs (length counts) ≡ true → Prepared times xs turns → Accepted counts (length (take (length times) (xs ++ ys))) freqs
+    → sizesAgree counts (length times) freqs (length counts) ≡ true → Prepared times xs turns → SetAccepted counts (length (take (length times) (xs ++ ys))) freqs
 part-taken {times} {xs} counts freqs ys a p =
     let e : sizesAgree counts (length (take (length times) (xs ++ ys))) freqs (length counts) ≡ true = rw (part ys p, part-length p) a in
     let z = laws.sizes e in
@@ -262,7 +262,7 @@ pub not-far : (n : ℕ) (a : After) → n ≡ 0 → a ≡ stateUnless n a
 not-far zero a h = refl
 not-far (suc n) a h = absurd (omega (arith, h))
 
-pub tries-refused : (n : ℕ) (a : After) (scratch : List Float) (r : Tried) → (n ≡ 0 → ⊥) → (r .refusal ≡ n) × (stateAfter (r .state) ≡ zeroState) → Tries n a scratch scratch r
+pub tries-refused : (n : ℕ) (a : After) (scratch : List Float) (r : Tried) → (n ≡ 0 → ⊥) → (r .refusal ≡ n) × (stateAfter (r .state) ≡ zeroState) → TrialCall n a scratch scratch r
 tries-refused zero a scratch r h e = absurd (h refl)
 tries-refused (suc n) a scratch r h e = record { answer = e .0; state = e .1; zeros = refl }
 
@@ -273,8 +273,8 @@ module _ (n : ℕ) (a : After) (scratch out : List Float) (m : ℕ) (early : n �
   zeros-of : out ≡ cleared n scratch
   zeros-of = rw early (z ∙ ap (λ (j : ℕ). replicate j (bits 0)) l)
 
-  pub tries-far : (r : Tried) → (k ≡ 0 → ⊥) → (r .refusal ≡ k) × (stateAfter (r .state) ≡ zeroState) → Tries n a scratch out r
+  pub tries-far : (r : Tried) → (k ≡ 0 → ⊥) → (r .refusal ≡ k) × (stateAfter (r .state) ≡ zeroState) → TrialCall n a scratch out r
   tries-far r h e = record { answer = e .0 ∙ sym whole; state = e .1 ∙ far-zeros (trialRefusal n a) a (λ w. h (sym whole ∙ w)); zeros = zeros-of }
 
-  pub tries-found : (s : State) → k ≡ 0 → stateAfter s ≡ a → Tries n a scratch out (record { refusal = 0; state = s })
+  pub tries-found : (s : State) → k ≡ 0 → stateAfter s ≡ a → TrialCall n a scratch out (record { refusal = 0; state = s })
   tries-found s h e = record { answer = sym h ∙ sym whole; state = e ∙ not-far (trialRefusal n a) a (whole ∙ h); zeros = zeros-of }

@@ -5,21 +5,22 @@ use mathlib.Core.Option.{Option}
 use Prim.Native.Nat.{ℕ, zero, suc}
 use native.Mathlib.Omega.{arith}
 use lib.Ieee.{Float}
+use Rattle.refusal.specs.Order.{unlessRefused}
 use Rattle.search.specs.declared.Found.{Found}
 use Rattle.book.specs.Book.{Search, After}
 use Rattle.trials.specs.Trials.{stateSearch, stateAfter}
-use Rattle.probes.specs.Call.{Searches, Sums, residualsAnswer, Tries, trialRefusal}
-use Rattle.probes.specs.Exported.{unless, SearchesTo, SumsTo, endingNumber, TriesTo}
+use Rattle.probes.specs.Call.{Searches, Sums, residualsAnswer, TrialCall, trialRefusal}
+use Rattle.probes.specs.Exported.{SearchesTo, SumsTo, endingNumber, TriesTo}
 use Rattle.probes.specs.declared.Searched.{Searched}
 use Rattle.probes.specs.declared.Residuals.{Residuals}
 use Rattle.probes.specs.declared.Tried.{Tried}
 use Rattle.probes.proofs.Calls.{not-far}
 
-kept : {A : Type 0} (n : ℕ) (new old : A) → (n ≡ 0 → ⊥) → old ≡ unless n new old
+kept : {A : Type 0} (n : ℕ) (new old : A) → (n ≡ 0 → ⊥) → old ≡ unlessRefused n new old
 kept zero new old h = absurd (h refl)
 kept (suc n) new old h = refl
 
-put : {A : Type 0} (n : ℕ) (x new old : A) → n ≡ 0 → x ≡ new → x ≡ unless n new old
+put : {A : Type 0} (n : ℕ) (x new old : A) → n ≡ 0 → x ≡ new → x ≡ unlessRefused n new old
 put zero x new old z q = q
 put (suc n) x new old z q = absurd (omega (arith, z))
 
@@ -42,7 +43,7 @@ module _ (k : ℕ) (w : Option (List Float)) (out out′ : List Float) (sum : Fl
   pub sums-put : r .refusal ≡ 0 → SumsTo k w out out′ sum (r .sum) 0
   sums-put h = record { answer = sym h ∙ number; written = s .written; summed = put _ _ _ _ (sym number ∙ h) (ap (λ (q : Residuals). q .sum) (s .answer)) }
 
-module _ (k : ℕ) (a : After) (scratch scratch′ : List Float) (s : Search) (ended : ℕ) (r : Tried) (t : Tries k a scratch scratch′ r) where
+module _ (k : ℕ) (a : After) (scratch scratch′ : List Float) (s : Search) (ended : ℕ) (r : Tried) (t : TrialCall k a scratch scratch′ r) where
   pub tries-kept : (r .refusal ≡ 0 → ⊥) → TriesTo k a scratch scratch′ s s ended ended (r .refusal)
   tries-kept h =
       let no : trialRefusal k a ≡ 0 → ⊥ = λ z. h (t .answer ∙ z) in

@@ -48,11 +48,11 @@ cleared zero old = replicate (length old) (bits 0)
 cleared (suc k) old = old
 
 -- the first sample's moment; of a set without samples, 1970, which nothing reads
-abbrev pub epochOf : List ℤ → Instant
-epochOf times = instantAt (getD times 0 (pos 0))
+abbrev pub firstEpoch : List ℤ → Instant
+firstEpoch times = instantAt (getD times 0 (pos 0))
 
 abbrev pub stationOf : List ℤ → Float → Vec3 → Station
-stationOf times center rec = record { epoch = epochOf times; «center_freq» = center; «rec_ecef» = rec }
+stationOf times center rec = record { epoch = firstEpoch times; «center_freq» = center; «rec_ecef» = rec }
 
 -- ---- the search
 
@@ -74,12 +74,12 @@ abbrev pub samplesOf : List ℕ → List ℤ → List Float → Passes
 samplesOf counts times freqs = passesOf counts (countsAt times) freqs
 
 -- of the residuals w, of which there are none after refusal 23
-abbrev pub sumAnswer : Option (List Float) → Residuals
-sumAnswer none = record { refusal = far-moment; sum = bits 0 }
-sumAnswer (some r) = record { refusal = 0; sum = sumOf r }
+abbrev pub summedAnswer : Option (List Float) → Residuals
+summedAnswer none = record { refusal = far-moment; sum = bits 0 }
+summedAnswer (some r) = record { refusal = 0; sum = sumOf r }
 
 abbrev pub residualsAnswer : ℕ → Option (List Float) → Residuals
-residualsAnswer zero w = sumAnswer w
+residualsAnswer zero w = summedAnswer w
 residualsAnswer (suc k) w = record { refusal = suc k; sum = bits 0 }
 
 -- the output afterwards: the residuals in its first places, the places past them as they were; any refusal writes nothing
@@ -145,14 +145,14 @@ stateUnless zero a = a
 stateUnless (suc k) a = zeroState
 
 -- with refusal k before any work, or 0, and a what the trial leads to
-pub record Tries (k : ℕ) (a : After) (scratch scratch′ : List Float) (r : Tried) : Type 0 where
+pub record TrialCall (k : ℕ) (a : After) (scratch scratch′ : List Float) (r : Tried) : Type 0 where
   pub answer : r .refusal ≡ trialRefusal k a
   pub state : stateAfter (r .state) ≡ stateUnless (trialRefusal k a) a
   pub zeros : scratch′ ≡ cleared k scratch
 
 -- ---- what no refusal says, as facts
 
-pub record Accepted (counts : List ℕ) (times freqs : ℕ) : Type 0 where
+pub record SetAccepted (counts : List ℕ) (times freqs : ℕ) : Type 0 where
   pub agree : sizesAgree counts times freqs (length counts) ≡ true
   pub few : length counts ≤ 16
   pub small : times ≤ 4096

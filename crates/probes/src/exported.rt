@@ -2,11 +2,12 @@
 // number, 0 if none, and leaves what the arguments point to as it was; memory that is worked in is zeros after 23, too.
 ghost use mathlib.Core.Path.{_≡_};
 ghost use lib.ListN.{length};
-ghost use Rattle.search.specs.Sum.{sumOf};
+ghost use Rattle.frame.specs.Rotation.{place};
+ghost use Rattle.search.specs.Sum.{fixedSum};
 ghost use Rattle.search.specs.Search.{searchOf};
 ghost use Rattle.residuals.specs.Residuals.{residuals};
 ghost use Rattle.probes.specs.Call.{probeRefusal, fixedOf, stationOf, samplesOf, trialOf};
-ghost use Rattle.probes.specs.Exported.{place, SearchesTo, SumsTo, searchAt, endingNumber, TriesTo};
+ghost use Rattle.probes.specs.Exported.{SearchesTo, SumsTo, searchAt, endingNumber, TriesTo};
 use book::Ending;
 use frame::Vec3;
 use trials::State;
@@ -27,7 +28,7 @@ pub extern "C" fn wisvalom_search_starts(
     out: &mut [f64; 3],
 ) -> u32
     ensures { λ r. ⌜ SearchesTo (probeRefusal (now (counts .entry)) (now (times .entry)) (now (freqs .entry)) (length (now (centers .entry))) (length (now (table .entry))) 48032)
-        (searchOf (sumOf (now (counts .entry)) (now (times .entry)) (now (freqs .entry)) (now (centers .entry)) (fixedOf (now (times .entry)) (now (centers .entry)) (place x y z) a i)) 0 144)
+        (searchOf (fixedSum (now (counts .entry)) (now (times .entry)) (now (freqs .entry)) (now (centers .entry)) (fixedOf (now (times .entry)) (now (centers .entry)) (place x y z) a i)) 0 144)
         (now (table .entry)) (now (table .exit)) (now (out .entry)) (now (out .exit)) r ⌝ }
 {
     let answer = crate::search_starts(counts, times, freqs, centers, Vec3 { x, y, z }, a, i, table);

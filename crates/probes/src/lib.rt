@@ -18,7 +18,7 @@ ghost use Rattle.residuals.specs.Residuals.{residuals};
 ghost use Rattle.trials.specs.Trials.{stateSearch, stateAfter};
 ghost use Rattle.probes.specs.Call.{
   probeRefusal,
-  epochOf,
+  firstEpoch,
   fixedOf,
   Searches,
   stationOf,
@@ -28,8 +28,8 @@ ghost use Rattle.probes.specs.Call.{
   isRunning,
   endingRefusal,
   zeroState,
-  Tries,
-  Accepted,
+  TrialCall,
+  SetAccepted,
   Lent,
   Prepared,
 };
@@ -102,7 +102,7 @@ fn refusal_of(
 // The first sample's moment, 1970 where there is none.
 fn epoch_of(times: &[i64]) -> Instant
     requires { ⌜ Timed (now times) ⌝ }
-    ensures { λ r. ⌜ (r ≡ epochOf (now (times .entry))) × Within 0 (r .secs) (r .nanos) ⌝ }
+    ensures { λ r. ⌜ (r ≡ firstEpoch (now (times .entry))) × Within 0 (r .secs) (r .nanos) ⌝ }
 {
     if times.len() == 0 {
         return moment::sample::of_nanos(0);
@@ -155,7 +155,7 @@ pub fn search_starts(
     table: &mut [f64],
 ) -> Searched
     ensures { λ r. ⌜ Searches (probeRefusal (now (counts .entry)) (now (times .entry)) (now (freqs .entry)) (length (now (centers .entry))) (length (now (table .entry))) 48032)
-        (starts.searchOf (sums.sumOf (now (counts .entry)) (now (times .entry)) (now (freqs .entry)) (now (centers .entry)) (fixedOf (now (times .entry)) (now (centers .entry)) «rec_ecef» a i)) 0 144)
+        (starts.searchOf (sums.fixedSum (now (counts .entry)) (now (times .entry)) (now (freqs .entry)) (now (centers .entry)) (fixedOf (now (times .entry)) (now (centers .entry)) «rec_ecef» a i)) 0 144)
         (now (table .entry)) (now (table .exit)) r ⌝ }
 {
     let refusal = refusal_of(counts, times, freqs, centers.len(), table.len(), ROTATIONS);
@@ -201,7 +201,7 @@ fn sum_of(
     params: [f64; PARAMS],
     out: &mut [f64],
 ) -> Residuals
-    requires { ⌜ Accepted (now counts) (length (now times)) (length (now freqs)) × Sound (g .epoch .secs) (g .epoch .nanos) × Rotations (now times) (now turns) × (4144 ≤ length (now out)) ⌝ }
+    requires { ⌜ SetAccepted (now counts) (length (now times)) (length (now freqs)) × Sound (g .epoch .secs) (g .epoch .nanos) × Rotations (now times) (now turns) × (4144 ≤ length (now out)) ⌝ }
     ensures { λ r. ⌜ Sums 0 (residuals second g (passesOf (now (counts .entry)) (now (times .entry)) (now (freqs .entry))) params) (now (out .entry)) (now (out .exit)) r ⌝ }
 {
     let rows = residuals::rows_of(second, times.len(), counts.len());
@@ -296,7 +296,7 @@ fn turned(
     s: State,
     scratch: &mut [f64],
 ) -> State
-    requires { ⌜ Accepted (now counts) (length (now times)) (length (now freqs)) × Sound (g .epoch .secs) (g .epoch .nanos) × Rotations (now times) (now turns) × (281792 ≤ length (now scratch)) ⌝ }
+    requires { ⌜ SetAccepted (now counts) (length (now times)) (length (now freqs)) × Sound (g .epoch .secs) (g .epoch .nanos) × Rotations (now times) (now turns) × (281792 ≤ length (now scratch)) ⌝ }
     ensures { λ r. ⌜ stateAfter r ≡ trialOf second g (passesOf (now (counts .entry)) (now (times .entry)) (now (freqs .entry))) (stateSearch s) ⌝ }
 {
     let enough = residuals::place_of(second, counts.len())
@@ -384,7 +384,7 @@ pub fn trial(
     s: State,
     scratch: &mut [f64],
 ) -> Tried
-    ensures { λ r. ⌜ Tries (probeRefusal (now (counts .entry)) (now (times .entry)) (now (freqs .entry)) (length (now (counts .entry))) (length (now (scratch .entry))) 281792)
+    ensures { λ r. ⌜ TrialCall (probeRefusal (now (counts .entry)) (now (times .entry)) (now (freqs .entry)) (length (now (counts .entry))) (length (now (scratch .entry))) 281792)
         (trialOf second (stationOf (now (times .entry)) «center_freq» «rec_ecef») (samplesOf (now (counts .entry)) (now (times .entry)) (now (freqs .entry))) (stateSearch s))
         (now (scratch .entry)) (now (scratch .exit)) r ⌝ }
 {

@@ -8,7 +8,7 @@ use lib.Ieee.{Float}
 use Rattle.refusal.specs.Numbers as refusal
 use Rattle.loops.specs.Loop.{for}
 use Rattle.loops.proofs.Laws.{Tries, again-try, refused, ends-try, loops}
-use Rattle.residuals.specs.Answers.{refusalOf, Filled}
+use Rattle.residuals.specs.Answers.{filledRefusal, Filled}
 use Rattle.residuals.proofs.Laws.{filled-not}
 use Rattle.refine.specs.Jacobian.{perturbedOf, putEntry, columnOf}
 
@@ -18,7 +18,7 @@ module _ (k : ℕ) (l : List Float) (w : Option (List Float)) (f : Filled k l w)
   refused-none = sym (filled-not k l h) ∙ f .written
 
   pub refused-far : k ≡ refusal.far-moment
-  refused-far = f .number ∙ ap refusalOf (sym refused-none)
+  refused-far = f .number ∙ ap filledRefusal (sym refused-none)
 
 module _ (eps : ℕ → Float) (res : List Float → Option (List Float)) (x r : List Float) (m n k : ℕ) (t y : List Float) (ε : Float) (eε : ε ≡ eps k) (ey : y ≡ perturbedOf x k ε) where
   pub column-far : (number : ℕ) (l s : List Float) → (number ≡ 0 → ⊥) → Filled number l (res y) → Filled number s (columnOf eps res x r m n k t)
@@ -43,9 +43,9 @@ pub refused-fill : {a b k : ℕ} {f : ℕ → List Float → Option (List Float)
     → a < b → Tries a b f s t → Filled k s′ (f a s) → (k ≡ 0 → ⊥) → Filled k s″ t
 refused-fill {k = k} {s′ = s′} {s″ = s″} h l p ne =
     let z = refused {s′ = s′} {s″ = s″} h l (record { made = refused-none k s′ _ p ne }) refl .made in
-    record { written = filled-not k s″ ne ∙ z; number = refused-far k s′ _ p ne ∙ ap refusalOf z }
+    record { written = filled-not k s″ ne ∙ z; number = refused-far k s′ _ p ne ∙ ap filledRefusal z }
 
 pub ends-fill : {a b : ℕ} {f : ℕ → List Float → Option (List Float)} {s : List Float} {t : Option (List Float)} → b ≤ a → Tries a b f s t → Filled 0 s t
-ends-fill h l = let z = ends-try h l .made in record { written = z; number = ap refusalOf z }
+ends-fill h l = let z = ends-try h l .made in record { written = z; number = ap filledRefusal z }
 
 pub ruleset columns = (loops, again-fill, refused-fill, ends-fill)

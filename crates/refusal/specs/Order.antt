@@ -21,3 +21,8 @@ first (r ∷ rs) = cond (r .when) (r .number) (first rs)
 abbrev pub unless : {A : Type 0} → (ℕ → A) → ℕ → A → A
 unless refused zero answer = answer
 unless refused (suc n) answer = refused (suc n)
+
+-- what a call writes: this, or, refused, what was there
+abbrev pub unlessRefused : {A : Type 0} → ℕ → A → A → A
+unlessRefused zero new old = new
+unlessRefused (suc n) new old = old

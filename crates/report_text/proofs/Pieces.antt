@@ -10,14 +10,14 @@ use Rattle.append.specs.Append.{Appends}
 use Rattle.append.proofs.Appending.{both, called}
 use Rattle.noise.specs.declared.Finding.{Finding}
 use Rattle.report_text.specs.Fitted.{findingOf}
-use Rattle.report_text.specs.Number.{largestShown, largestShown-bits, millionthsOf, signOf, sizeOf, roundedOf, realOf}
+use Rattle.report_text.specs.Number.{largestShown, largestShown-bits, millionthsOf, minusText, sizeText, roundedOf, realOf}
 
 pub digit-put : {d v i n : ℕ} {o p : List ℕ} → d ≡ v → Appends (d ∷ []) i o p n → Appends (v ∷ []) i o p n
 digit-put e f = called (ap (λ (x : ℕ). x ∷ []) e) f
 
-pub rounded-put : (v : Float) {k i n m : ℕ} {o p q : List ℕ} → k ≡ millionthsOf v → Appends (signOf v k) i o p n → Appends (sizeOf k) n p q m → Appends (roundedOf v) i o q m
+pub rounded-put : (v : Float) {k i n m : ℕ} {o p q : List ℕ} → k ≡ millionthsOf v → Appends (minusText v k) i o p n → Appends (sizeText k) n p q m → Appends (roundedOf v) i o q m
 unfolding roundedOf
-rounded-put v e f g = both (called (ap (signOf v) e) f) (called (ap sizeOf e) g)
+rounded-put v e f g = both (called (ap (minusText v) e) f) (called (ap sizeText e) g)
 
 pub real-put : {v w : Float} {i n : ℕ} {o p : List ℕ} → v ≡ w → Appends (realOf v) i o p n → Appends (realOf w) i o p n
 real-put e f = called (ap realOf e) f

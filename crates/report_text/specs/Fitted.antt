@@ -19,8 +19,8 @@ unfoldable pub sumsOf : Float → Float → List ℕ
 sumsOf best rms =
     bytes "best sum, with penalties: " ++ (realOf best ++ (bytes " Hz^2\nroot-mean-square residual of the samples: " ++ (realOf rms ++ bytes " Hz\n")))
 
-unfoldable pub fitOf : ℕ → Float → Float → ℕ → ℕ → List ℕ
-fitOf trials best rms samples passes = countsOf trials samples passes ++ sumsOf best rms
+unfoldable pub fitText : ℕ → Float → Float → ℕ → ℕ → List ℕ
+fitText trials best rms samples passes = countsOf trials samples passes ++ sumsOf best rms
 
 -- A sample's frequency is predicted for the moment dt after its recorded one: where dt is positive, the recording's clock is behind.
 unfoldable pub clockOf : Float → List ℕ
@@ -31,12 +31,12 @@ unfoldable pub offsetOf : Float → List ℕ
 offsetOf df = bytes ", its frequencies are " ++ (realOf (absOf df) ++ cond (lt df (bits 0)) (bytes " Hz low (add it to them)") (bytes " Hz high (take it from them)"))
 
 -- by how much that grows, in mHz a second and in µHz a second squared
-unfoldable pub driftOf : Float → Float → List ℕ
-driftOf df1 df2 = bytes ", rising by " ++ (realOf (df1 ⊗ thousand) ++ (bytes " mHz/s and " ++ (realOf (df2 ⊗ million) ++ bytes " uHz/s^2\n")))
+unfoldable pub driftText : Float → Float → List ℕ
+driftText df1 df2 = bytes ", rising by " ++ (realOf (df1 ⊗ thousand) ++ (bytes " mHz/s and " ++ (realOf (df2 ⊗ million) ++ bytes " uHz/s^2\n")))
 
 -- a file's line, which begins with its name
 unfoldable pub passLine : List ℕ → Float → Float → Float → Float → List ℕ
-passLine name dt df df1 df2 = name ++ (bytes ": " ++ (clockOf dt ++ (offsetOf df ++ driftOf df1 df2)))
+passLine name dt df df1 df2 = name ++ (bytes ": " ++ (clockOf dt ++ (offsetOf df ++ driftText df1 df2)))
 
 unfoldable pub ratioLine : Float → List ℕ
 ratioLine ratio = bytes "doubtful: the residual is " ++ (realOf ratio ++ bytes " times the noise of the samples\n")

@@ -31,14 +31,14 @@ unfoldable pub sixOf : ℕ → List ℕ
 sixOf n = threeOf n 3 ++ threeOf n 0
 
 -- a zero has no minus
-unfoldable pub signOf : Float → ℕ → List ℕ
-signOf v n = cond (eqb n 0) [] (cond (lt v (bits 0)) (bytes "-") [])
+unfoldable pub minusText : Float → ℕ → List ℕ
+minusText v n = cond (eqb n 0) [] (cond (lt v (bits 0)) (bytes "-") [])
 
-unfoldable pub sizeOf : ℕ → List ℕ
-sizeOf n = numeral (n / 1000000) ++ (bytes "." ++ sixOf n)
+unfoldable pub sizeText : ℕ → List ℕ
+sizeText n = numeral (n / 1000000) ++ (bytes "." ++ sixOf n)
 
 unfoldable pub roundedOf : Float → List ℕ
-roundedOf v = signOf v (millionthsOf v) ++ sizeOf (millionthsOf v)
+roundedOf v = minusText v (millionthsOf v) ++ sizeText (millionthsOf v)
 
 unfoldable pub realOf : Float → List ℕ
 realOf v = cond (isNan v) (bytes "not a number") (cond (lt largestShown (absOf v)) (bytes "over 1e12 in size") (roundedOf v))

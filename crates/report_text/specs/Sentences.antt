@@ -59,12 +59,12 @@ sentenceOf k = cond (ltb k 6) (fileSentence k) (cond (ltb k 11) (inputSentence k
 unfoldable pub numberedOf : ℕ → List ℕ
 numberedOf k = bytes "refusal " ++ (numeral k ++ (bytes ": " ++ (sentenceOf k ++ bytes "\n")))
 
-unfoldable pub refusalOf : ℕ → List ℕ
-refusalOf k = bytes "fit_passes: " ++ numberedOf k
+unfoldable pub refusalLine : ℕ → List ℕ
+refusalLine k = bytes "fit_passes: " ++ numberedOf k
 
 -- a line's number, counted from 1; nothing for 0
-unfoldable pub lineOf : ℕ → List ℕ
-lineOf n = cond (eqb n 0) [] (bytes "line " ++ (numeral n ++ bytes ": "))
+unfoldable pub lineText : ℕ → List ℕ
+lineText n = cond (eqb n 0) [] (bytes "line " ++ (numeral n ++ bytes ": "))
 
 unfoldable pub fileRefusalOf : List ℕ → ℕ → ℕ → List ℕ
-fileRefusalOf name n k = name ++ (bytes ": " ++ (lineOf n ++ numberedOf k))
+fileRefusalOf name n k = name ++ (bytes ": " ++ (lineText n ++ numberedOf k))

@@ -1,6 +1,6 @@
 // What an accepted fit's report says.
 ghost use Rattle.append.specs.Append.{Appends};
-ghost use Rattle.report_text.specs.Fitted.{countsOf, sumsOf, fitOf, clockOf, offsetOf, driftOf, passLine, findingOf, ratioLine, noiseOf};
+ghost use Rattle.report_text.specs.Fitted.{countsOf, sumsOf, fitText, clockOf, offsetOf, driftText, passLine, findingOf, ratioLine, noiseOf};
 use super::number;
 use noise::Finding;
 
@@ -36,7 +36,7 @@ pub fn fit(
     out: &mut [u8],
     at: usize,
 ) -> usize
-    ensures { λ r. ⌜ Appends (fitOf trials best rms samples passes) at (now (out .entry)) (now (out .exit)) r ⌝ }
+    ensures { λ r. ⌜ Appends (fitText trials best rms samples passes) at (now (out .entry)) (now (out .exit)) r ⌝ }
 {
     let a = counts(trials, samples, passes, out, at);
     sums(best, rms, out, a)
@@ -67,7 +67,7 @@ fn offset(df: f64, out: &mut [u8], at: usize) -> usize
 }
 
 fn drift(df1: f64, df2: f64, out: &mut [u8], at: usize) -> usize
-    ensures { λ r. ⌜ Appends (driftOf df1 df2) at (now (out .entry)) (now (out .exit)) r ⌝ }
+    ensures { λ r. ⌜ Appends (driftText df1 df2) at (now (out .entry)) (now (out .exit)) r ⌝ }
 {
     let a = append::text(b", rising by ", out, at);
     let b = number::real(df1 * 1000.0, out, a);

@@ -2,7 +2,7 @@
 ghost use mathlib.Core.Path.{_≡_};
 ghost use Prim.Native.Nat.{_≤_};
 ghost use Rattle.append.specs.Append.{Appends};
-ghost use Rattle.report_text.specs.Number.{millionthsOf, threeOf, sixOf, signOf, sizeOf, roundedOf, realOf};
+ghost use Rattle.report_text.specs.Number.{millionthsOf, threeOf, sixOf, minusText, sizeText, roundedOf, realOf};
 
 // |v| in millionths, to the nearest.
 fn millionths(v: f64) -> u64
@@ -30,7 +30,7 @@ fn six(n: u64, out: &mut [u8], at: usize) -> usize
 
 // A minus, where what is printed is below zero.
 fn sign(v: f64, n: u64, out: &mut [u8], at: usize) -> usize
-    ensures { λ r. ⌜ Appends (signOf v n) at (now (out .entry)) (now (out .exit)) r ⌝ }
+    ensures { λ r. ⌜ Appends (minusText v n) at (now (out .entry)) (now (out .exit)) r ⌝ }
 {
     if n == 0 {
         return append::nothing(out, at);
@@ -43,7 +43,7 @@ fn sign(v: f64, n: u64, out: &mut [u8], at: usize) -> usize
 
 // n millionths.
 fn size(n: u64, out: &mut [u8], at: usize) -> usize
-    ensures { λ r. ⌜ Appends (sizeOf n) at (now (out .entry)) (now (out .exit)) r ⌝ }
+    ensures { λ r. ⌜ Appends (sizeText n) at (now (out .entry)) (now (out .exit)) r ⌝ }
 {
     let a = append::number(n / 1000000, out, at);
     let b = append::text(b".", out, a);

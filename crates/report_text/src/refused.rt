@@ -1,6 +1,6 @@
 // Why something was refused.
 ghost use Rattle.append.specs.Append.{Appends};
-ghost use Rattle.report_text.specs.Sentences.{fileSentence, inputSentence, workSentence, sentenceOf, numberedOf, refusalOf, fileRefusalOf, lineOf};
+ghost use Rattle.report_text.specs.Sentences.{fileSentence, inputSentence, workSentence, sentenceOf, numberedOf, refusalLine, fileRefusalOf, lineText};
 
 fn file_sentence(k: u32, out: &mut [u8], at: usize) -> usize
     ensures { λ r. ⌜ Appends (fileSentence k) at (now (out .entry)) (now (out .exit)) r ⌝ }
@@ -115,7 +115,7 @@ fn numbered(k: u32, out: &mut [u8], at: usize) -> usize
 
 // Of a fit.
 pub fn refusal(k: u32, out: &mut [u8], at: usize) -> usize
-    ensures { λ r. ⌜ Appends (refusalOf k) at (now (out .entry)) (now (out .exit)) r ⌝ }
+    ensures { λ r. ⌜ Appends (refusalLine k) at (now (out .entry)) (now (out .exit)) r ⌝ }
 {
     let a = append::text(b"fit_passes: ", out, at);
     numbered(k, out, a)
@@ -123,7 +123,7 @@ pub fn refusal(k: u32, out: &mut [u8], at: usize) -> usize
 
 // "line 12: ", and nothing for line 0.
 fn line(n: usize, out: &mut [u8], at: usize) -> usize
-    ensures { λ r. ⌜ Appends (lineOf n) at (now (out .entry)) (now (out .exit)) r ⌝ }
+    ensures { λ r. ⌜ Appends (lineText n) at (now (out .entry)) (now (out .exit)) r ⌝ }
 {
     if n == 0 {
         return append::nothing(out, at);

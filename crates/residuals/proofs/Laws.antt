@@ -23,8 +23,8 @@ use Rattle.orbit.specs.declared.doppler.Station.{Station}
 use Rattle.orbit.specs.declared.doppler.Prediction.{Prediction}
 use Rattle.orbit.specs.declared.doppler.Prediction.the-variants.{Frequency, Refused}
 use Rattle.residuals.specs.Samples.{Passes}
-use Rattle.residuals.specs.Residuals.{_then_, at, elementsOf, dtOf, biasesOf, shiftOf, predictionOf, residual, samples, passes, dtWeight-bits, df1Weight-bits, df2Weight-bits, dtPenalties, driftPenalties, penalties, rowsOf, residuals, sumSquares, sumOf}
-use Rattle.residuals.specs.Answers.{filled, refusalOf, Filled, Summed}
+use Rattle.residuals.specs.Residuals.{_then_, at, elementsOf, dtOf, passBias, shiftOf, predictionOf, residual, samples, passes, dtWeight-bits, df1Weight-bits, df2Weight-bits, dtPenalties, driftPenalties, penalties, rowsOf, residuals, sumSquares, sumOf}
+use Rattle.residuals.specs.Answers.{filled, filledRefusal, Filled, Summed}
 use Rattle.residuals.specs.declared.Bias.{Bias}
 use Rattle.residuals.specs.declared.Sum.{Sum}
 use Rattle.residuals.specs.declared.Sum.the-variants.{Value, Refused as NoSum}
@@ -108,8 +108,8 @@ only-far g times e dt b f k ey n h = predicted-far g e _ _ dt _ _ n (sym ey ∙ 
 
 -- The residual of a sample from the prediction y.
 module _ (second : Bool) (g : Station) (d : Passes) (x : List Float) (p f k : ℕ) (e : Elements) (dt : Float) (b : Bias) (y : Prediction)
-    (ee : e ≡ elementsOf x) (et : dt ≡ dtOf second x p) (eb : b ≡ biasesOf second x p) (ey : y ≡ predictionOf g (d .times) e dt b f k) where
-  shift-is : shiftOf (predictionOf g (d .times) (elementsOf x) (dtOf second x p) (biasesOf second x p) f k) ≡ shiftOf y
+    (ee : e ≡ elementsOf x) (et : dt ≡ dtOf second x p) (eb : b ≡ passBias second x p) (ey : y ≡ predictionOf g (d .times) e dt b f k) where
+  shift-is : shiftOf (predictionOf g (d .times) (elementsOf x) (dtOf second x p) (passBias second x p) f k) ≡ shiftOf y
   shift-is = rw (ey, ee, et, eb)
 
   pub residual-is : (v : Float) → y ≡ Frequency v → residual second g d x p f k ≡ some ((at (d .freqs) k ⊖ (g .«center_freq» ⊕ v)) ∷ [])
@@ -207,7 +207,7 @@ module _ (out : List Float) (n : ℕ) (fits : n ≤ length out) (sum : Float) (k
 
 -- nothing is given, and the number is 23
 pub far-filled : {w : Option (List Float)} {n : ℕ} {xs : List Float} → none ≡ w → n ≡ refusal.far-moment → Filled n xs w
-far-filled {w} {n} {xs} z e = record { written = ap (λ (k : ℕ). filled k xs) e ∙ z; number = e ∙ ap refusalOf z }
+far-filled {w} {n} {xs} z e = record { written = ap (λ (k : ℕ). filled k xs) e ∙ z; number = e ∙ ap filledRefusal z }
 
 -- what is refused gives nothing
 pub filled-not : (n : ℕ) (l : List Float) → (n ≡ 0 → ⊥) → filled n l ≡ none
@@ -223,7 +223,7 @@ module _ (second : Bool) (g : Station) (d : Passes) (x : List Float) (r : ℕ) w
   unfolding residuals
   residuals-far l m h p =
       let same = far-then (passes (residual second g d x) 0 0 (d .counts)) (some (penalties second x (length (d .counts)))) l h p in
-      record { written = filled-not r m h ∙ sym (filled-not r l h) ∙ p .written ∙ sym same; number = p .number ∙ ap refusalOf (sym same) }
+      record { written = filled-not r m h ∙ sym (filled-not r l h) ∙ p .written ∙ sym same; number = p .number ∙ ap filledRefusal (sym same) }
 
   -- what is written after the samples' residuals l is the penalties
   whole-written : (j : ℕ) (l o : List Float) → r ≡ 0 → Filled r l (passes (residual second g d x) 0 0 (d .counts))
@@ -233,7 +233,7 @@ module _ (second : Bool) (g : Station) (d : Passes) (x : List Float) (r : ℕ) w
       let first : some l ≡ passes (residual second g d x) 0 0 (d .counts) = sym (ap (λ (k : ℕ). filled k l) z) ∙ p .written in
       let whole : some (take j o) ≡ (passes (residual second g d x) 0 0 (d .counts) then some (penalties second x (length (d .counts))))
       = ap some e ∙ ap (_then some (penalties second x (length (d .counts)))) first in
-      record { written = whole; number = ap refusalOf whole }
+      record { written = whole; number = ap filledRefusal whole }
 
   module _ (n m : ℕ) (o₁ o₂ : List Float) (z : r ≡ 0) (p : Filled r (take n o₁) (passes (residual second g d x) 0 0 (d .counts))) (c : length (d .counts) ≡ m)
       (e₂ : take (n + m) o₂ ≡ take n o₁ ++ dtPenalties second x 0 m) where

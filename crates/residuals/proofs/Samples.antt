@@ -26,7 +26,7 @@ use Rattle.orbit.specs.declared.doppler.Station.{Station}
 use Rattle.orbit.specs.declared.doppler.Sight.{Sight}
 use Rattle.orbit.specs.declared.doppler.Prediction.{Prediction}
 use Rattle.orbit.proofs.Hoisted.{predicted-at}
-use Rattle.residuals.specs.Samples.{countAt, countsAt, instantOf, nanosAt, rotationAt, turnIn, Dated, Rotations}
+use Rattle.residuals.specs.Samples.{countAt, countsAt, instantOf, nanosAt, rotationAt, turnIn, DatedTimes, Rotations}
 use Rattle.residuals.specs.Residuals.{biasAt, nearOf, predictionOf}
 use Rattle.residuals.specs.declared.Bias.{Bias}
 use Rattle.residuals.proofs.Laws.{stored}
@@ -107,7 +107,7 @@ counts-get (t ∷ ts) zero h = refl
 counts-get (t ∷ ts) (suc k) h = counts-get ts k (le-of-suc-le-suc h)
 
 -- the counts of times in range are in range, and stand for the same moments
-pub counts-dated : (ts : List ℤ) → Timed ts → Dated (countsAt ts)
+pub counts-dated : (ts : List ℤ) → Timed ts → DatedTimes (countsAt ts)
 counts-dated ts w = record { each = λ k h. one k (rw counts-length at h) }
   where
     one : (k : ℕ) → k < length ts → (count1957 ≤ getD (countsAt ts) k 0) × (getD (countsAt ts) k 0 < count2057)

@@ -24,11 +24,11 @@ abbrev pub filled : ℕ → List Float → Option (List Float)
 filled zero xs = some xs
 filled (suc n) xs = none
 
-abbrev pub refusalOf : Option (List Float) → ℕ
-refusalOf none = refusal.far-moment
-refusalOf (some xs) = 0
+abbrev pub filledRefusal : Option (List Float) → ℕ
+filledRefusal none = refusal.far-moment
+filledRefusal (some xs) = 0
 
 -- what a call wrote, xs, and its refusal are those of w: 23, or 0 for none
 pub record Filled (r : ℕ) (xs : List Float) (w : Option (List Float)) : Type 0 where
   pub written : filled r xs ≡ w
-  pub number : r ≡ refusalOf w
+  pub number : r ≡ filledRefusal w

@@ -39,8 +39,8 @@ dtOf second x p = at x (placeOf second p)
 abbrev pub polynomialOf : List Float → ℕ → Bias
 polynomialOf x p = Polynomial (record { 0 = at x (4 + 4 * p + 1); 1 = at x (4 + 4 * p + 2); 2 = at x (4 + 4 * p + 3) })
 
-unfoldable pub biasesOf : Bool → List Float → ℕ → Bias
-biasesOf second x p = cond second (polynomialOf x p) (Constant (at x (4 + 2 * p + 1)))
+unfoldable pub passBias : Bool → List Float → ℕ → Bias
+passBias second x p = cond second (polynomialOf x p) (Constant (at x (4 + 2 * p + 1)))
 
 -- ---- a sample's residual
 
@@ -73,7 +73,7 @@ module _ (second : Bool) (g : Station) (d : Passes) (x : List Float) where
   unfoldable pub residual : ℕ → ℕ → ℕ → Option (List Float)
   residual p f k =
       each (λ v. (at (d .freqs) k ⊖ (g .«center_freq» ⊕ v)) ∷ [])
-      (shiftOf (predictionOf g (d .times) (elementsOf x) (dtOf second x p) (biasesOf second x p) f k))
+      (shiftOf (predictionOf g (d .times) (elementsOf x) (dtOf second x p) (passBias second x p) f k))
 
 -- ---- the residuals of all samples, each given by its pass p, the place f of the pass's first sample, and its own place k
 

@@ -44,7 +44,7 @@ unfoldable pub rotationAt : ℕ → SinCos
 rotationAt n = turnAt (instantOf n .secs) (instantOf n .nanos)
 
 -- every moment is from 1957-01-01 on and before 2057-01-01: no refusal 4
-pub record Dated (times : List ℕ) : Type 0 where
+pub record DatedTimes (times : List ℕ) : Type 0 where
   pub each : (k : ℕ) → k < length times → (count1957 ≤ getD times k 0) × (getD times k 0 < count2057)
 
 -- the k-th sine and cosine of a list of both

@@ -12,12 +12,12 @@ ghost use Rattle.float.specs.Ops.{bits};
 ghost use Rattle.moment.specs.Sample.{timeInRange, Timed};
 ghost use Rattle.moment.specs.Time.{nanosOf, tauMillisOf, Sound};
 ghost use Rattle.orbit.specs.Doppler.{sightOf};
-ghost use Rattle.residuals.specs.Samples.{countAt, countsAt, passesOf, instantOf, rotationAt, turnIn, Dated, Rotations, Samples};
+ghost use Rattle.residuals.specs.Samples.{countAt, countsAt, passesOf, instantOf, rotationAt, turnIn, DatedTimes, Rotations, Samples};
 ghost use Rattle.residuals.specs.Residuals.{
   elementsOf,
   placeOf,
   dtOf,
-  biasesOf,
+  passBias,
   biasAt,
   nearOf,
   predictionOf,
@@ -87,7 +87,7 @@ fn dt_of(second: bool, x: [f64; PARAMS], p: usize) -> f64
 
 fn biases_of(second: bool, x: [f64; PARAMS], p: usize) -> Bias
     requires { ⌜ p < 16 ⌝ }
-    ensures { λ r. ⌜ r ≡ biasesOf second x p ⌝ }
+    ensures { λ r. ⌜ r ≡ passBias second x p ⌝ }
 {
     if second {
         Bias::Polynomial(DfPoly(x[4 + 4 * p + 1], x[4 + 4 * p + 2], x[4 + 4 * p + 3]))
@@ -142,7 +142,7 @@ fn rotation_at(n: u64) -> SinCos
 
 // Writes the rotations of all samples, which no set of parameters changes, to the first places of turns.
 pub fn rotations(times: &[u64], turns: &mut [f64])
-    requires { ⌜ Dated (now times) × (length (now times) ≤ 4096) × (2 * length (now times) ≤ length (now turns)) ⌝ }
+    requires { ⌜ DatedTimes (now times) × (length (now times) ≤ 4096) × (2 * length (now times) ≤ length (now turns)) ⌝ }
     ensures { λ _. ⌜ Rotations (now (times .entry)) (now (turns .exit)) ⌝ }
 {
     for k in 0..times.len() {

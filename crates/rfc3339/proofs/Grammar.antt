@@ -10,7 +10,7 @@ use lib.ListN.{length, getD, take, drop, length-drop, length-append, take-append
 use lib.Seq.{drop-cons, drop-drop, getD-drop, take-all, take-take, take-at, drop-at, length-take-le}
 use borrow.Author.Tests.{eq-eqb, ne-eqb, eqb-true, eqb-false, ltb-true, ltb-false, leb-true}
 use Rattle.decimal.specs.Read.{digitRun, withDigits, lower}
-use Rattle.decimal.specs.Grammar.{numeral}
+use Rattle.decimal.specs.Grammar.{numeralValue}
 use Rattle.decimal.proofs.Grammar.{run-most, run-digits, Stops, letter, letter-stops, at-other, digits-run, value-numeral}
 use Rattle.decimal.proofs.Scan.{present}
 use Rattle.rfc3339.specs.Rfc3339.{placeFits, matches, layout, hourMinute, twoDigits, validDate, validTime, nanos, numoffset, timeOffset, timeSecfrac, seconds, dateTime, dateTimeOf}
@@ -151,20 +151,20 @@ module _ (s n : ℕ) where
 
 -- ---- the fraction
 
-nanos-are : (l q ds : List ℕ) (n : ℕ) → drop 20 l ≡ q → take n q ≡ ds → length ds ≡ n → nanos l n ≡ numeral 0 (take 9 ds) * 10 ^ (9 - length ds)
+nanos-are : (l q ds : List ℕ) (n : ℕ) → drop 20 l ≡ q → take n q ≡ ds → length ds ≡ n → nanos l n ≡ numeralValue 0 (take 9 ds) * 10 ^ (9 - length ds)
 unfolding nanos
 nanos-are l q ds n e f g = go (ltb n 9) refl
   where
-    go : (b : Bool) → ltb n 9 ≡ b → cond b (withDigits 0 n (drop 20 l) * 10 ^ (9 - n)) (withDigits 0 9 (drop 20 l)) ≡ numeral 0 (take 9 ds) * 10 ^ (9 - length ds)
+    go : (b : Bool) → ltb n 9 ≡ b → cond b (withDigits 0 n (drop 20 l) * 10 ^ (9 - n)) (withDigits 0 9 (drop 20 l)) ≡ numeralValue 0 (take 9 ds) * 10 ^ (9 - length ds)
     go true h =
         let k = ltb-true n 9 h in
         let t : take 9 ds ≡ ds = take-all 9 ds (omega arith) in
-        (λ i. (value-numeral 0 n (drop 20 l) ∙ ap (λ (x : List ℕ). numeral 0 (take n x)) e ∙ ap (numeral 0) (f ∙ sym t)) i * 10 ^ (9 - sym g i))
+        (λ i. (value-numeral 0 n (drop 20 l) ∙ ap (λ (x : List ℕ). numeralValue 0 (take n x)) e ∙ ap (numeralValue 0) (f ∙ sym t)) i * 10 ^ (9 - sym g i))
     go false h =
         let k = ltb-false n 9 h in
         let t : take 9 ds ≡ take 9 q = ap (take 9) (sym f) ∙ take-take 9 n q k in
         let z : 9 - length ds ≡ 0 = omega arith in
-        value-numeral 0 9 (drop 20 l) ∙ ap (λ (x : List ℕ). numeral 0 (take 9 x)) e ∙ ap (numeral 0) (sym t) ∙ sym (ap (λ (k : ℕ). numeral 0 (take 9 ds) * 10 ^ k) z ∙ mul-one (numeral 0 (take 9 ds)))
+        value-numeral 0 9 (drop 20 l) ∙ ap (λ (x : List ℕ). numeralValue 0 (take 9 x)) e ∙ ap (numeralValue 0) (sym t) ∙ sym (ap (λ (k : ℕ). numeralValue 0 (take 9 ds) * 10 ^ k) z ∙ mul-one (numeralValue 0 (take 9 ds)))
 
 -- what stands behind the seconds
 data Rest (s : ℕ) : List ℕ → Timestamp → Type 0 where
@@ -202,11 +202,11 @@ module _ (l : List ℕ) (s : ℕ) (h : 19 ≤ length l) where
           let long : length ds ≡ n = length-take-le n q r in
           let text : 46 ∷ (ds ++ drop (20 + n) l) ≡ drop 19 l =
           ap (λ (x : List ℕ). 46 ∷ (ds ++ x)) (sym (drop-drop n 20 l)) ∙ ap (λ (x : List ℕ). 46 ∷ x) (take-append-drop n q) ∙ (λ i. sym c i ∷ q) ∙ sym (drop-cons l 19 0 m) in
-          let same : timeOffset l (20 + n) s (nanos l n) ≡ timeOffset (drop (20 + n) l) 0 s (numeral 0 (take 9 ds) * 10 ^ (9 - length ds)) =
+          let same : timeOffset l (20 + n) s (nanos l n) ≡ timeOffset (drop (20 + n) l) 0 s (numeralValue 0 (take 9 ds) * 10 ^ (9 - length ds)) =
           offset-shift l (20 + n) (omega arith) s (nanos l n) ∙ ap (timeOffset (drop (20 + n) l) 0 s) (nanos-are l q ds n refl refl long) in
           subst (λ (x : List ℕ). Said (Rest s x) (timeOffset l (20 + n) s (nanos l n))) text
           (subst (Said (Rest s (46 ∷ (ds ++ drop (20 + n) l)))) (sym same)
-          (with-frac (secfrac ds (run-digits q) (omega arith)) (offset-said s (numeral 0 (take 9 ds) * 10 ^ (9 - length ds)) (drop (20 + n) l))))
+          (with-frac (secfrac ds (run-digits q) (omega arith)) (offset-said s (numeralValue 0 (take 9 ds) * 10 ^ (9 - length ds)) (drop (20 + n) l))))
 
 -- an offset begins with no digit and no point
 offset-first : {o : List ℕ} {a b : ℕ} → Offset o a b → Stops o
@@ -237,7 +237,7 @@ secfrac-takes l s {o = o} h e (secfrac ds D k) O =
     ∙ simp (ne-eqb (length ds) 0 (λ (z : length ds ≡ 0). omega arith))
     (offset-shift l (20 + length ds) (omega arith) s (nanos l (length ds))
     ∙ (λ z. timeOffset (u z) 0 s (nanos-are l (drop 20 l) ds (length ds) refl t refl z))
-    ∙ offset-takes s (numeral 0 (take 9 ds) * 10 ^ (9 - length ds)) O)
+    ∙ offset-takes s (numeralValue 0 (take 9 ds) * 10 ^ (9 - length ds)) O)
 
 -- ---- the whole
 

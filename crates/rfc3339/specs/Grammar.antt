@@ -13,7 +13,7 @@ use mathlib.Core.List.{List, [], _∷_, _++_}
 use lib.ListN.{length, take}
 use Rattle.text.specs.Text.{code}
 use Rattle.decimal.specs.Read.{isDigit, lower}
-use Rattle.decimal.specs.Grammar.{Digits, numeral}
+use Rattle.decimal.specs.Grammar.{Digits, numeralValue}
 use Rattle.rfc3339.specs.Rfc3339.{validDate, validTime, seconds}
 use Rattle.rfc3339.specs.declared.Timestamp.{Timestamp}
 use Rattle.rfc3339.specs.declared.Timestamp.the-variants.{At}
@@ -30,7 +30,7 @@ pub data FullDate : List ℕ → ℕ → ℕ → ℕ → Type 0 where
 -- [time-secfrac], as billionths
 pub data Secfrac : List ℕ → ℕ → Type 0 where
   no-secfrac : Secfrac [] 0
-  secfrac : (ds : List ℕ) → Digits ds → 0 < length ds → Secfrac (code "." ∷ ds) (numeral 0 (take 9 ds) * 10 ^ (9 - length ds))
+  secfrac : (ds : List ℕ) → Digits ds → 0 < length ds → Secfrac (code "." ∷ ds) (numeralValue 0 (take 9 ds) * 10 ^ (9 - length ds))
 
 -- partial-time: hour, minute, second, billionths
 pub data PartialTime : List ℕ → ℕ → ℕ → ℕ → ℕ → Type 0 where

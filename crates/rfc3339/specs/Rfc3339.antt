@@ -99,7 +99,7 @@ pub record Nanos (l : List ℕ) (n r : ℕ) : Type 0 where
   pub most : r < 1000000000
 
 -- room for an offset on both sides
-pub record Room (s : ℕ) : Type 0 where
+pub record OffsetRoom (s : ℕ) : Type 0 where
   pub low : 86400 ≤ s
   pub high : s < 1000000000000000
 
@@ -115,4 +115,4 @@ pub record Clock (y m d h mi s : ℕ) : Type 0 where
 
 pub record Seconds (y m d h mi s r : ℕ) : Type 0 where
   pub is : r ≡ seconds y m d h mi s
-  pub room : Room r
+  pub room : OffsetRoom r

@@ -106,7 +106,7 @@ fn nanos(l: &[u8], n: usize) -> u64
 
 // Local time becomes UTC: an offset stands at z, of a sign, hours and minutes.
 fn numoffset(l: &[u8], z: usize, s: u64, n: u64) -> Timestamp
-    requires { ⌜ Rfc.Room s × (length (now l) ≡ z + 6) ⌝ }
+    requires { ⌜ Rfc.OffsetRoom s × (length (now l) ≡ z + 6) ⌝ }
     ensures { λ r. ⌜ r ≡ Rfc.numoffset (now (l .entry)) z s n ⌝ }
 {
     if !matches(b"00:00", &l[z + 1..]) {
@@ -129,7 +129,7 @@ fn numoffset(l: &[u8], z: usize, s: u64, n: u64) -> Timestamp
 
 // At z stands Z or an offset, and nothing after.
 fn time_offset(l: &[u8], z: usize, s: u64, n: u64) -> Timestamp
-    requires { ⌜ Rfc.Room s × (z < 9223372036854775808) ⌝ }
+    requires { ⌜ Rfc.OffsetRoom s × (z < 9223372036854775808) ⌝ }
     ensures { λ r. ⌜ r ≡ Rfc.timeOffset (now (l .entry)) z s n ⌝ }
 {
     if l.len() == z + 1 {
@@ -146,7 +146,7 @@ fn time_offset(l: &[u8], z: usize, s: u64, n: u64) -> Timestamp
 
 // Behind the seconds a point and digits may stand.
 fn time_secfrac(l: &[u8], s: u64) -> Timestamp
-    requires { ⌜ Rfc.Room s ⌝ }
+    requires { ⌜ Rfc.OffsetRoom s ⌝ }
     ensures { λ r. ⌜ r ≡ Rfc.timeSecfrac (now (l .entry)) s ⌝ }
 {
     if read::byte(l, 19) == b'.' {

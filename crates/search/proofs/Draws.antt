@@ -11,7 +11,7 @@ use Rattle.monna.specs.Rng.{nextState, drawn, drawOf, gaussianOf}
 use Rattle.monna.specs.Digits.{Base}
 use Rattle.monna.specs.declared.rng.SimpleRng.{SimpleRng}
 use Rattle.search.specs.Step.{primeOf, proposalOf, chosenOf, stepOf}
-use Rattle.search.specs.Search.{gridOf, afterDraws, generatorOf, openingOf, finishedOf, trajectoryOf, startOf, foundBy, offerOf, betterOf, withStart}
+use Rattle.search.specs.Search.{gridOf, afterDraws, generatorOf, openingOf, finishedOf, trajectoryOf, trajectoryAt, foundBy, offerOf, betterOf, withStart}
 use Rattle.search.specs.declared.Trajectory.{Trajectory}
 use Rattle.search.specs.declared.Found.{Found}
 
@@ -86,8 +86,8 @@ unfolding trajectoryOf finishedOf openingOf
 trajectory-draws sum raan u g = steps-draw sum (openingOf raan u g)
 
 -- start j's trajectory leaves the generator of start j + 1
-pub start-draws : (sum : Float → Float → Float) (j : ℕ) → startOf sum j .rng .state ≡ drawn (75 * (j + 1)) 1337
-unfolding startOf
+pub start-draws : (sum : Float → Float → Float) (j : ℕ) → trajectoryAt sum j .rng .state ≡ drawn (75 * (j + 1)) 1337
+unfolding trajectoryAt
 start-draws sum j =
     let m : 75 * (j + 1) ≡ 75 * j + 75 = omega arith in
     rw m (trajectory-draws sum _ _ _ ∙ sym (drawn-add (75 * j) 75 1337))
@@ -95,14 +95,14 @@ start-draws sum j =
 -- ---- what a turn of the search's loop leaves
 
 pub start-is : (sum : Float → Float → Float) (j : ℕ) {w : Trajectory} {a b : Float} {g : SimpleRng}
-    → a ≡ gridOf (j / 12) → b ≡ gridOf (j % 12) → g ≡ generatorOf j → w ≡ trajectoryOf sum a b g → w ≡ startOf sum j
-unfolding startOf
+    → a ≡ gridOf (j / 12) → b ≡ gridOf (j % 12) → g ≡ generatorOf j → w ≡ trajectoryOf sum a b g → w ≡ trajectoryAt sum j
+unfolding trajectoryAt
 start-is sum j ea eb eg e = rw (e, ea, eb, eg)
 
-pub next-rng : (sum : Float → Float → Float) (j : ℕ) {w : Trajectory} → w ≡ startOf sum j → w .rng ≡ generatorOf (j + 1)
+pub next-rng : (sum : Float → Float → Float) (j : ℕ) {w : Trajectory} → w ≡ trajectoryAt sum j → w .rng ≡ generatorOf (j + 1)
 next-rng sum j e = rw e (ap (λ s. record { state = s }) (start-draws sum j))
 
-pub next-best : (sum : Float → Float → Float) (j : ℕ) (best : Found) {w : Trajectory} {r : Found} → w ≡ startOf sum j → r ≡ betterOf best (foundBy j (w .best)) → r ≡ withStart sum j best
+pub next-best : (sum : Float → Float → Float) (j : ℕ) (best : Found) {w : Trajectory} {r : Found} → w ≡ trajectoryAt sum j → r ≡ betterOf best (foundBy j (w .best)) → r ≡ withStart sum j best
 unfolding withStart offerOf
 next-best sum j best e f = rw (f, e)
 

@@ -52,8 +52,8 @@ afterDraws n g = record { state = drawn n (g .state) }
 abbrev pub generatorOf : ℕ → SimpleRng
 generatorOf j = record { state = drawn (75 * j) 1337 }
 
-unfoldable pub startOf : (Float → Float → Float) → ℕ → Trajectory
-startOf sum j = trajectoryOf sum (gridOf (j / 12)) (gridOf (j % 12)) (generatorOf j)
+unfoldable pub trajectoryAt : (Float → Float → Float) → ℕ → Trajectory
+trajectoryAt sum j = trajectoryOf sum (gridOf (j / 12)) (gridOf (j % 12)) (generatorOf j)
 
 -- ---- the best of a run of starts, in their order: a later one only where its sum is below
 
@@ -62,7 +62,7 @@ abbrev pub foundBy : ℕ → Best → Found
 foundBy j b = record { start = j; raan0 = b .raan0; u0 = b .u0; rss = b .rss }
 
 unfoldable pub offerOf : (Float → Float → Float) → ℕ → Found
-offerOf sum j = foundBy j (startOf sum j .best)
+offerOf sum j = foundBy j (trajectoryAt sum j .best)
 
 unfoldable pub betterOf : Found → Found → Found
 betterOf a b = cond (lt (b .rss) (a .rss)) b a

@@ -53,8 +53,8 @@ abbrev pub turn : Float
 turn = two ⊗ pi
 
 -- −lr×sign×0.2 + noise×gaussian×0.05 further, modulo one turn
-unfoldable pub movedOf : Float → Float → Float → Float → Float → Float
-movedOf angle sign lr noise gaussian =
+unfoldable pub movedAngle : Float → Float → Float → Float → Float → Float
+movedAngle angle sign lr noise gaussian =
     remEuclidOf (angle ⊕ (neg lr ⊗ sign ⊗ decimal 2 1 ⊕ noise ⊗ gaussian ⊗ decimal 5 2)) turn
 
 -- two Gaussian numbers, of two draws each, and a uniform one: 5 draws
@@ -64,8 +64,8 @@ proposalOf w s =
     let b = gaussianOf (a .rng) in
     let d = drawOf (b .rng) in
     record {
-      raan0 = movedOf (w .raan0) (s .raan0) (w .lr) (w .«noise_std») (a .value);
-      u0 = movedOf (w .u0) (s .u0) (w .lr) (w .«noise_std») (b .value);
+      raan0 = movedAngle (w .raan0) (s .raan0) (w .lr) (w .«noise_std») (a .value);
+      u0 = movedAngle (w .u0) (s .u0) (w .lr) (w .«noise_std») (b .value);
       uniform = d .value;
       rng = d .rng;
     }
@@ -73,14 +73,14 @@ proposalOf w s =
 -- ---- the scrambling
 
 -- 2, 3, 5 and 7 in turn
-abbrev pub pick : ℕ → ℕ
-pick zero = 2
-pick (suc zero) = 3
-pick (suc (suc zero)) = 5
-pick (suc (suc (suc k))) = 7
+abbrev pub primeAt : ℕ → ℕ
+primeAt zero = 2
+primeAt (suc zero) = 3
+primeAt (suc (suc zero)) = 5
+primeAt (suc (suc (suc k))) = 7
 
 unfoldable pub primeOf : ℕ → ℕ
-primeOf k = pick (k % 4)
+primeOf k = primeAt (k % 4)
 
 -- a draw times p^4, cut
 unfoldable pub perturbationOf : Float → ℕ → ℕ

@@ -5,14 +5,14 @@ ghost use mathlib.Core.Path.{_≡_};
 ghost use Prim.Native.Nat.{_+_, _<_, _≤_};
 ghost use lib.ListN.{length, take};
 ghost use Rattle.monna.specs.Digits.{Base};
-ghost use Rattle.search.specs.Sum.{Ready, sumOf};
+ghost use Rattle.search.specs.Sum.{SumReady, fixedSum};
 ghost use Rattle.search.specs.Step.{
   sizeAdded,
   variationOf,
   regularizedOf,
   signOf,
   signsOf,
-  movedOf,
+  movedAngle,
   proposalOf,
   primeOf,
   perturbationOf,
@@ -89,8 +89,8 @@ fn sum_at(
     o: Fixed,
     at: Angles,
 ) -> f64
-    requires { ⌜ Ready (now counts) (now times) (now freqs) (now centers) (now table) o ⌝ }
-    ensures { λ r. ⌜ r ≡ sumOf (now (counts .entry)) (now (times .entry)) (now (freqs .entry)) (now (centers .entry)) o (at .raan0) (at .u0) ⌝ }
+    requires { ⌜ SumReady (now counts) (now times) (now freqs) (now centers) (now table) o ⌝ }
+    ensures { λ r. ⌜ r ≡ fixedSum (now (counts .entry)) (now (times .entry)) (now (freqs .entry)) (now (centers .entry)) o (at .raan0) (at .u0) ⌝ }
 {
     let e = Elements {
         a: o.a,
@@ -148,8 +148,8 @@ fn gradient_signs(
     o: Fixed,
     at: Angles,
 ) -> Signs
-    requires { ⌜ Ready (now counts) (now times) (now freqs) (now centers) (now table) o ⌝ }
-    ensures { λ r. ⌜ r ≡ signsOf (sumOf (now (counts .entry)) (now (times .entry)) (now (freqs .entry)) (now (centers .entry)) o) (at .raan0) (at .u0) ⌝ }
+    requires { ⌜ SumReady (now counts) (now times) (now freqs) (now centers) (now table) o ⌝ }
+    ensures { λ r. ⌜ r ≡ signsOf (fixedSum (now (counts .entry)) (now (times .entry)) (now (freqs .entry)) (now (centers .entry)) o) (at .raan0) (at .u0) ⌝ }
 {
     let e = Elements {
         a: o.a,
@@ -166,7 +166,7 @@ fn gradient_signs(
 
 // An angle moved against the gradient's sign, with noise, and turned back into one turn.
 fn moved(angle: f64, sign: f64, lr: f64, noise_std: f64, gaussian: f64) -> f64
-    ensures { λ r. ⌜ r ≡ movedOf angle sign lr «noise_std» gaussian ⌝ }
+    ensures { λ r. ⌜ r ≡ movedAngle angle sign lr «noise_std» gaussian ⌝ }
 {
     let step = -lr * sign * 0.2 + noise_std * gaussian * 0.05;
     float::rem_euclid(angle + step, 2.0 * float::PI)
@@ -302,8 +302,8 @@ fn step(
     k: usize,
     w: Trajectory,
 ) -> Trajectory
-    requires { ⌜ Ready (now counts) (now times) (now freqs) (now centers) (now table) o × (k < 15) ⌝ }
-    ensures { λ r. ⌜ r ≡ stepOf (sumOf (now (counts .entry)) (now (times .entry)) (now (freqs .entry)) (now (centers .entry)) o) k w ⌝ }
+    requires { ⌜ SumReady (now counts) (now times) (now freqs) (now centers) (now table) o × (k < 15) ⌝ }
+    ensures { λ r. ⌜ r ≡ stepOf (fixedSum (now (counts .entry)) (now (times .entry)) (now (freqs .entry)) (now (centers .entry)) o) k w ⌝ }
 {
     let at = Angles {
         raan0: w.raan0,
@@ -348,8 +348,8 @@ fn finished(
     o: Fixed,
     w: Trajectory,
 ) -> Trajectory
-    requires { ⌜ Ready (now counts) (now times) (now freqs) (now centers) (now table) o ⌝ }
-    ensures { λ r. ⌜ r ≡ finishedOf (sumOf (now (counts .entry)) (now (times .entry)) (now (freqs .entry)) (now (centers .entry)) o) w ⌝ }
+    requires { ⌜ SumReady (now counts) (now times) (now freqs) (now centers) (now table) o ⌝ }
+    ensures { λ r. ⌜ r ≡ finishedOf (fixedSum (now (counts .entry)) (now (times .entry)) (now (freqs .entry)) (now (centers .entry)) o) w ⌝ }
 {
     let at = Angles {
         raan0: w.raan0,
@@ -381,8 +381,8 @@ fn langevin_trajectory(
     from: Angles,
     rng: SimpleRng,
 ) -> Trajectory
-    requires { ⌜ Ready (now counts) (now times) (now freqs) (now centers) (now table) o ⌝ }
-    ensures { λ r. ⌜ r ≡ trajectoryOf (sumOf (now (counts .entry)) (now (times .entry)) (now (freqs .entry)) (now (centers .entry)) o) (from .raan0) (from .u0) rng ⌝ }
+    requires { ⌜ SumReady (now counts) (now times) (now freqs) (now centers) (now table) o ⌝ }
+    ensures { λ r. ⌜ r ≡ trajectoryOf (fixedSum (now (counts .entry)) (now (times .entry)) (now (freqs .entry)) (now (centers .entry)) o) (from .raan0) (from .u0) rng ⌝ }
 {
     let mut w = opening(from, rng);
     for k in 0..15usize {
@@ -437,8 +437,8 @@ pub fn search(
     first: usize,
     count: usize,
 ) -> Found
-    requires { ⌜ Ready (now counts) (now times) (now freqs) (now centers) (now table) o × (first + count ≤ 144) ⌝ }
-    ensures { λ r. ⌜ r ≡ searchOf (sumOf (now (counts .entry)) (now (times .entry)) (now (freqs .entry)) (now (centers .entry)) o) first count ⌝ }
+    requires { ⌜ SumReady (now counts) (now times) (now freqs) (now centers) (now table) o × (first + count ≤ 144) ⌝ }
+    ensures { λ r. ⌜ r ≡ searchOf (fixedSum (now (counts .entry)) (now (times .entry)) (now (freqs .entry)) (now (centers .entry)) o) first count ⌝ }
 {
     let mut rng = advance(SimpleRng::new(1337), first * 75);
     let mut best = Found {

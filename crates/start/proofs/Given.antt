@@ -15,12 +15,12 @@ use Rattle.moment.specs.Sample.{Timed}
 use Rattle.pass_set.specs.PassSet.{startOf, total}
 use Rattle.pass_set.proofs.Laws.{start-fits, start-last}
 use Rattle.arguments.specs.Passes.{nonEmpty}
-use Rattle.arguments.specs.Refusals.{Accepted}
+use Rattle.arguments.specs.Refusals.{InputAccepted}
 use Rattle.arguments.proofs.Laws.{sizes-kept, each-kept}
-use Rattle.start.specs.Start.{Passes}
+use Rattle.start.specs.Start.{SampledPasses}
 
 pub accepted-passes : {counts : List ℕ} {times : List ℤ} {freqs centers : List Float} {rec : Vec3} {a i : Float}
-    → Accepted counts times freqs centers rec a i → Passes (nonEmpty counts) times freqs
+    → InputAccepted counts times freqs centers rec a i → SampledPasses (nonEmpty counts) times freqs
 accepted-passes {counts} h = record { sizes = sizes-kept (h .sizes); timed = h .timed; each = each-kept counts }
 
 -- ---- the first m passes, with their samples
@@ -42,8 +42,8 @@ timed-part : (n : ℕ) (times : List ℤ) → Timed times → Timed (take n time
 timed-part n times s =
     record { each = λ k h. let i = inside n k times h in rw (getD-take n times k (pos 0) (i .0)) (s .each k (i .1)) }
 
-pub first-passes : {counts : List ℕ} {times : List ℤ} {freqs : List Float} (m : ℕ) → Passes counts times freqs
-    → Passes (take m counts) (take (startOf counts m) times) (take (startOf counts m) freqs)
+pub first-passes : {counts : List ℕ} {times : List ℤ} {freqs : List Float} (m : ℕ) → SampledPasses counts times freqs
+    → SampledPasses (take m counts) (take (startOf counts m) times) (take (startOf counts m) freqs)
 unfolding startOf
 first-passes {counts} {times} {freqs} m s =
     let n : ℕ = total (take m counts) in

@@ -14,21 +14,21 @@ use Rattle.orbit.specs.declared.doppler.Sight.{Sight}
 use Rattle.orbit.specs.Doppler.{sightOf}
 use Rattle.pass_set.specs.PassSet.{countOf, total, AtPass}
 use Rattle.pass_set.proofs.Laws.{start-zero, start-next, pass-fits, pass-part, pass-length}
-use Rattle.approach.specs.Turns.{Samples, PassSet}
+use Rattle.approach.specs.Turns.{PassSamples, SoundSet}
 use Rattle.approach.specs.Pca.{obsPcaTime}
 use Rattle.approach.specs.Sums.{secondsFrom, dtOf}
 use Rattle.approach.proofs.Passes.{part-samples}
 use Rattle.residuals.specs.Residuals.{placeOf}
 use Rattle.start.specs.declared.Periods.{Periods}
-use Rattle.start.specs.Start.{Passes, addPeriod, obsOf, nextPeriod, passDt, putDt, startingSet}
+use Rattle.start.specs.Start.{SampledPasses, addPeriod, obsOf, nextPeriod, passDt, putDt, startingSet}
 
 -- with any centres, one for each pass, it is a pass set
-pub pass-set : {counts : List ℕ} {times : List ℤ} {freqs : List Float} (centers : List Float) → length centers ≡ length counts → Passes counts times freqs
-    → PassSet counts times freqs centers
+pub pass-set : {counts : List ℕ} {times : List ℤ} {freqs : List Float} (centers : List Float) → length centers ≡ length counts → SampledPasses counts times freqs
+    → SoundSet counts times freqs centers
 pass-set centers e s = record { sizes = rw e (s .sizes); timed = s .timed }
 
-module _ {counts : List ℕ} {times : List ℤ} {freqs : List Float} {p k : ℕ} (s : Passes counts times freqs) (a : AtPass counts p k) (h : p < length counts) where
-  pub samples : Samples (take (k + countOf counts p - k) (drop k times)) (take (k + countOf counts p - k) (drop k freqs))
+module _ {counts : List ℕ} {times : List ℤ} {freqs : List Float} {p k : ℕ} (s : SampledPasses counts times freqs) (a : AtPass counts p k) (h : p < length counts) where
+  pub samples : PassSamples (take (k + countOf counts p - k) (drop k times)) (take (k + countOf counts p - k) (drop k freqs))
   samples = part-samples (pass-set (replicate (length counts) nan) (length-replicate (length counts) nan) s) h a
 
   pub some : 0 < length (take (k + countOf counts p - k) (drop k freqs))

@@ -24,7 +24,7 @@ use Rattle.residuals.specs.Residuals.{placeOf}
 use Rattle.start.specs.declared.Periods.{Periods}
 
 -- what the functions ask: a set that passed refusals 4 and 5, a sample in each pass
-pub record Passes (counts : List ℕ) (times : List ℤ) (freqs : List Float) : Type 0 where
+pub record SampledPasses (counts : List ℕ) (times : List ℤ) (freqs : List Float) : Type 0 where
   pub sizes : Sizes counts (length times) (length freqs) (length counts)
   pub timed : Timed times
   pub each : (p : ℕ) → p < length counts → 0 < countOf counts p

@@ -5,10 +5,10 @@ ghost use Prim.Native.Nat.{_<_};
 ghost use lib.ListN.{length};
 ghost use Rattle.moment.specs.Range.{Within};
 ghost use Rattle.pass_set.specs.PassSet.{AtPass};
-ghost use Rattle.approach.specs.Turns.{Seen, Samples};
+ghost use Rattle.approach.specs.Turns.{Seen, PassSamples};
 ghost use Rattle.approach.specs.Sums.{dtOf};
 ghost use Rattle.start.specs.Start.{
-  Passes,
+  SampledPasses,
   addPeriod,
   meanPeriod,
   radiusOf,
@@ -69,7 +69,7 @@ fn radius(t: f64) -> f64
 
 // The observed closest moment of pass p, whose samples begin at k.
 fn obs_of(counts: &[u32], times: &[i64], freqs: &[f64], center: f64, p: usize, k: usize) -> Instant
-    requires { ⌜ Passes (now counts) (now times) (now freqs) × AtPass (now counts) p k × (p < length (now counts)) ⌝ }
+    requires { ⌜ SampledPasses (now counts) (now times) (now freqs) × AtPass (now counts) p k × (p < length (now counts)) ⌝ }
     ensures { λ r. ⌜ (r ≡ obsOf (now (counts .entry)) (now (times .entry)) (now (freqs .entry)) center p) × Within 0 (r .secs) (r .nanos) ⌝ }
 {
     let end = k + counts[p] as usize;
@@ -87,7 +87,7 @@ fn next_period(
     k: usize,
     s: Periods,
 ) -> Periods
-    requires { ⌜ (Passes (now counts) (now times) (now freqs) × AtPass (now counts) p k × (p < length (now counts)))
+    requires { ⌜ (SampledPasses (now counts) (now times) (now freqs) × AtPass (now counts) p k × (p < length (now counts)))
         × ((t0 ≡ obsOf (now counts) (now times) (now freqs) center 0) × Within 0 (t0 .secs) (t0 .nanos)) ⌝ }
     ensures { λ r. ⌜ r ≡ nextPeriod (now (counts .entry)) (now (times .entry)) (now (freqs .entry)) center p s ⌝ }
 {
@@ -96,7 +96,7 @@ fn next_period(
 }
 
 fn observed_periods(counts: &[u32], times: &[i64], freqs: &[f64], center: f64) -> Periods
-    requires { ⌜ Passes (now counts) (now times) (now freqs) × (0 < length (now counts)) ⌝ }
+    requires { ⌜ SampledPasses (now counts) (now times) (now freqs) × (0 < length (now counts)) ⌝ }
     ensures { λ r. ⌜ r ≡ periodsOf (now (counts .entry)) (now (times .entry)) (now (freqs .entry)) center ⌝ }
 {
     let t0 = obs_of(counts, times, freqs, center, 0, 0);
@@ -114,7 +114,7 @@ fn observed_periods(counts: &[u32], times: &[i64], freqs: &[f64], center: f64) -
 
 // The orbit's radius from the times between the passes.
 pub fn radius_estimate(counts: &[u32], times: &[i64], freqs: &[f64], center: f64) -> f64
-    requires { ⌜ Passes (now counts) (now times) (now freqs) × (0 < length (now counts)) ⌝ }
+    requires { ⌜ SampledPasses (now counts) (now times) (now freqs) × (0 < length (now counts)) ⌝ }
     ensures { λ r. ⌜ r ≡ radiusEstimate (now (counts .entry)) (now (times .entry)) (now (freqs .entry)) center ⌝ }
 {
     radius(mean_period(observed_periods(counts, times, freqs, center)))
@@ -135,7 +135,7 @@ fn with_elements(e: Elements) -> [f64; PARAMS]
 
 // Of one pass's samples: the seconds from the observed closest moment to the predicted one, both by the station's centre.
 fn dt_of(times: &[i64], freqs: &[f64], v: Sight) -> f64
-    requires { ⌜ Seen v × Samples (now times) (now freqs) × (0 < length (now freqs)) ⌝ }
+    requires { ⌜ Seen v × PassSamples (now times) (now freqs) × (0 < length (now freqs)) ⌝ }
     ensures { λ r. ⌜ r ≡ dtOf (v .station) (v .e) (v .station .«center_freq») (now (times .entry)) (now (freqs .entry)) ⌝ }
 {
     let center = v.station.center_freq;
@@ -146,7 +146,7 @@ fn dt_of(times: &[i64], freqs: &[f64], v: Sight) -> f64
 
 // The same of pass p, whose samples begin at k.
 fn pass_dt(counts: &[u32], times: &[i64], freqs: &[f64], v: Sight, p: usize, k: usize) -> f64
-    requires { ⌜ Seen v × Passes (now counts) (now times) (now freqs) × AtPass (now counts) p k × (p < length (now counts)) ⌝ }
+    requires { ⌜ Seen v × SampledPasses (now counts) (now times) (now freqs) × AtPass (now counts) p k × (p < length (now counts)) ⌝ }
     ensures { λ r. ⌜ r ≡ passDt (now (counts .entry)) (now (times .entry)) (now (freqs .entry)) (v .station) (v .e) p ⌝ }
 {
     let end = k + counts[p] as usize;
@@ -162,7 +162,7 @@ pub fn starting_set(
     g: Station,
     e: Elements,
 ) -> [f64; PARAMS]
-    requires { ⌜ Passes (now counts) (now times) (now freqs) × Within 0 (g .epoch .secs) (g .epoch .nanos) ⌝ }
+    requires { ⌜ SampledPasses (now counts) (now times) (now freqs) × Within 0 (g .epoch .secs) (g .epoch .nanos) ⌝ }
     ensures { λ r. ⌜ r ≡ startingSet (now (counts .entry)) (now (times .entry)) (now (freqs .entry)) g e second ⌝ }
 {
     let v = orbit::doppler::sight_of(g, e);

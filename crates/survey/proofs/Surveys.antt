@@ -10,7 +10,7 @@ use borrow.Author.Tests.{eq-eqb, ne-eqb}
 use Rattle.passes.specs.Text.{Placed, trim, lines, Trimmed}
 use Rattle.passes.specs.Line.{lineOf}
 use Rattle.passes.proofs.Files.{LineAt, same-line}
-use Rattle.survey.specs.Survey.{classOf, firstOf, counting, opening, surveyed, Small}
+use Rattle.survey.specs.Survey.{classOf, firstLine, counting, openTally, surveyed, Small}
 use Rattle.survey.specs.declared.Tally.{Tally}
 
 -- ---- an empty line
@@ -29,9 +29,9 @@ pub record Walking (file : List ℕ) (at : ℕ) (s : Tally) : Type 0 where
   pub few-used : s .used ≤ at
   pub few-skipped : s .skipped ≤ at
   pub good : s .refused ≡ 0
-  pub left : surveyed s (lines at (drop at file)) ≡ surveyed opening (lines 0 file)
+  pub left : surveyed s (lines at (drop at file)) ≡ surveyed openTally (lines 0 file)
 
-pub walk-begins : (file : List ℕ) → Walking file 0 opening
+pub walk-begins : (file : List ℕ) → Walking file 0 openTally
 walk-begins file = record { inside = omega arith; few = omega arith; few-used = omega arith; few-skipped = omega arith; good = refl; left = refl }
 
 -- each count grows by one at most
@@ -52,14 +52,14 @@ grow-test false false false s f = record { few = omega arith; few-used = omega a
 
 grows : (s : Tally) (class : ℕ) → Grows s (counting s class)
 unfolding counting
-grows s class = grow-test (eqb class 0) (eqb class 1) (eqb class 2) s (firstOf (s .first) (s .lines + 1))
+grows s class = grow-test (eqb class 0) (eqb class 1) (eqb class 2) s (firstLine (s .first) (s .lines + 1))
 
 module _ {file : List ℕ} {at n next : ℕ} {s r : Tally} {class : ℕ} (w : Walking file at s) (l : LineAt file at n next)
     (k : class ≡ classOf (lineOf (take (at + n - at) (drop at file))) (eqb (length (trim (take (at + n - at) (drop at file)))) 0)) (e : r ≡ counting s class) where
   here : r ≡ counting s (classOf (lineOf (take n (drop at file))) (eqb (length (trim (take n (drop at file)))) 0))
   here = e ∙ ap (counting s) (k ∙ ap (λ (b : List ℕ). classOf (lineOf b) (eqb (length (trim b)) 0)) (same-line file at n))
 
-  then : surveyed r (lines (at + next) (drop (at + next) file)) ≡ surveyed opening (lines 0 file)
+  then : surveyed r (lines (at + next) (drop (at + next) file)) ≡ surveyed openTally (lines 0 file)
   unfolding surveyed
   then = ap (λ (q : Tally). surveyed q (lines (at + next) (drop (at + next) file))) here ∙ sym (rw (l .is, w .good)) ∙ w .left
 
@@ -80,12 +80,12 @@ module _ {file : List ℕ} {at n next : ℕ} {s r : Tally} {class : ℕ} (w : Wa
   stops q [] h = refl
   stops q (l ∷ ls) h = rw (ne-eqb (q .refused) 0 h)
 
-  pub walk-refused : (r .refused ≡ 0 → ⊥) → r ≡ surveyed opening (lines 0 file)
+  pub walk-refused : (r .refused ≡ 0 → ⊥) → r ≡ surveyed openTally (lines 0 file)
   walk-refused h = sym (stops r (lines (at + next) (drop (at + next) file)) h) ∙ then
 
 pub walk-small : {file : List ℕ} {at : ℕ} {s : Tally} → Walking file at s → at < length file → length file < 18446744073709551616 → Small s
 walk-small w h k = record { lines = omega (arith, w .few); used = omega (arith, w .few-used); skipped = omega (arith, w .few-skipped) }
 
-pub walk-ends : {file : List ℕ} {at : ℕ} {s : Tally} → length file ≤ at → Walking file at s → s ≡ surveyed opening (lines 0 file)
+pub walk-ends : {file : List ℕ} {at : ℕ} {s : Tally} → length file ≤ at → Walking file at s → s ≡ surveyed openTally (lines 0 file)
 unfolding surveyed lines
 walk-ends {file} {at} {s} h w = rw (drop-of-length-le file {i = at} h) at (w .left)

@@ -19,19 +19,19 @@ classOf (Center f) blank = 2
 classOf (Sample t f) blank = 2
 
 -- the first of two lines, 0 being none
-unfoldable pub firstOf : ℕ → ℕ → ℕ
-firstOf first line = cond (eqb first 0) line first
+unfoldable pub firstLine : ℕ → ℕ → ℕ
+firstLine first line = cond (eqb first 0) line first
 
 -- one line more
 unfoldable pub counting : Tally → ℕ → Tally
 counting s class =
     cond (eqb class 0) (record { lines = s .lines + 1; used = s .used; skipped = s .skipped; first = s .first; refused = s .refused })
-    (cond (eqb class 1) (record { lines = s .lines + 1; used = s .used; skipped = s .skipped + 1; first = firstOf (s .first) (s .lines + 1); refused = s .refused })
+    (cond (eqb class 1) (record { lines = s .lines + 1; used = s .used; skipped = s .skipped + 1; first = firstLine (s .first) (s .lines + 1); refused = s .refused })
     (cond (eqb class 2) (record { lines = s .lines + 1; used = s .used + 1; skipped = s .skipped; first = s .first; refused = s .refused })
     (record { lines = s .lines + 1; used = s .used; skipped = s .skipped; first = s .first; refused = s .lines + 1 })))
 
-abbrev pub opening : Tally
-opening = record { lines = 0; used = 0; skipped = 0; first = 0; refused = 0 }
+abbrev pub openTally : Tally
+openTally = record { lines = 0; used = 0; skipped = 0; first = 0; refused = 0 }
 
 -- all lines, up to the first that is refused
 unfoldable pub surveyed : Tally → List Placed → Tally

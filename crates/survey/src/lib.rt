@@ -5,7 +5,7 @@ ghost use lib.Dec.{eqb};
 ghost use lib.ListN.{length};
 ghost use Rattle.passes.specs.Text.{trim, lines};
 ghost use Rattle.passes.specs.Line.{lineOf};
-ghost use Rattle.survey.specs.Survey.{classOf, firstOf, counting, opening, surveyed, Small};
+ghost use Rattle.survey.specs.Survey.{classOf, firstLine, counting, openTally, surveyed, Small};
 use passes::line;
 use passes::line::Line;
 use passes::pieces;
@@ -43,7 +43,7 @@ fn class(l: &[u8]) -> u8
 }
 
 fn first_of(first: usize, line: usize) -> usize
-    ensures { λ r. ⌜ r ≡ firstOf first line ⌝ }
+    ensures { λ r. ⌜ r ≡ firstLine first line ⌝ }
 {
     if first == 0 {
         return line;
@@ -95,7 +95,7 @@ fn counted(s: Tally, class: u8) -> Tally
 
 // All lines, up to the first that is refused.
 pub fn survey(file: &[u8]) -> Tally
-    ensures { λ r. ⌜ r ≡ surveyed opening (lines 0 (now (file .entry))) ⌝ }
+    ensures { λ r. ⌜ r ≡ surveyed openTally (lines 0 (now (file .entry))) ⌝ }
 {
     let mut s = Tally {
         lines: 0,

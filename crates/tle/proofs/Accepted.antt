@@ -15,7 +15,7 @@ use Rattle.moment.proofs.Numbers.{day}
 use Rattle.tle.specs.Elements.{printedDegrees, meanMotionOf, epochAt}
 use Rattle.float.specs.Trig.{pi}
 use Rattle.solution.specs.Range.{leastRadius, mostRadius}
-use Rattle.tle.specs.Answer.{inside, angleFits, radiusFits, inclinationFits, orbitFits}
+use Rattle.tle.specs.Answer.{fromTo, angleFits, radiusFits, inclinationFits, orbitFits}
 use Rattle.solution.specs.declared.SolvedOrbit.{SolvedOrbit}
 use Rattle.tle.proofs.Dates.{ordinal-le}
 use Rattle.tle.proofs.Ranges.{UpTo, degrees-up, mean-motion-up, day-up}
@@ -36,7 +36,7 @@ pub record Sound (o : SolvedOrbit) : Type 0 where
 
 inclination-angle : (i : Float) → T (inclinationFits i) → T (angleFits i)
 unfolding inclinationFits
-inclination-angle i t = and-l (angleFits i) (inside (bits 0) pi i) t
+inclination-angle i t = and-l (angleFits i) (fromTo (bits 0) pi i) t
 
 pub sound : (o : SolvedOrbit) → T (orbitFits o) → Sound o
 unfolding orbitFits
@@ -55,4 +55,4 @@ angle-up x t = degrees-up x (and-r (isFinite x) (isFinite (degreesOf x)) t)
 
 pub motion-up : (a : Float) → T (radiusFits a) → UpTo 54 (meanMotionOf a)
 unfolding radiusFits
-motion-up a t = mean-motion-up a (and-l (isFinite a) (inside leastRadius mostRadius a) t) (and-r (isFinite a) (inside leastRadius mostRadius a) t)
+motion-up a t = mean-motion-up a (and-l (isFinite a) (fromTo leastRadius mostRadius a) t) (and-r (isFinite a) (fromTo leastRadius mostRadius a) t)

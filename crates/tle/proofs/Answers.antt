@@ -12,7 +12,7 @@ use Rattle.decimal.specs.Fixed.{fixedText}
 use Rattle.moment.specs.Range.{taken}
 use Rattle.moment.specs.declared.Instant.{Instant}
 use Rattle.moment.proofs.Ranges.{Is}
-use Rattle.tle.specs.Elements.{epochAt, epochOf}
+use Rattle.tle.specs.Elements.{epochAt, lineEpoch}
 use Rattle.tle.specs.Lines.{body1, body2, closed, line1, line2, catalogOf}
 use Rattle.tle.specs.Answer.{orbitFits, nameFits, linesRefusal, Formats}
 use Rattle.solution.specs.declared.SolvedOrbit.{SolvedOrbit}
@@ -29,7 +29,7 @@ line2-length o = refl
 
 pub catalog-length : (name : List ℕ) (o : SolvedOrbit) → length (catalogOf name o) ≡ length name + 141
 unfolding catalogOf
-catalog-length name o = simp (length-append) (let a = line1-length (epochOf (o .epoch)) in let b = line2-length o in omega (arith, a, b))
+catalog-length name o = simp (length-append) (let a = line1-length (lineEpoch (o .epoch)) in let b = line2-length o in omega (arith, a, b))
 
 -- ---- refusals
 refused : (name : List ℕ) (o : SolvedOrbit) (out : List ℕ) (n : ℕ) → eqb n 0 ≡ false → linesRefusal name o (length out) ≡ n → Formats name o out out (record { refusal = n; length = 0 })

@@ -19,19 +19,19 @@ use Rattle.moment.specs.Calendar.{leap, monthLength, monthsLength, dateOf, ordi
 use Rattle.moment.specs.declared.Moment.{Moment}
 use Rattle.moment.specs.declared.calendar.Date.{Date}
 use Rattle.moment.proofs.Days.{from-march, from-january}
-use Rattle.tle.specs.Elements.{fullCircle, printedDegrees, secondsPerDay, meanMotionOf, secondsPerHour, secondsPerMinute, nanosPerSecond, ofNat, dayFraction, epochAt, epochOf}
+use Rattle.tle.specs.Elements.{fullCircle, printedDegrees, secondsPerDay, meanMotionOf, secondsPerHour, secondsPerMinute, nanosPerSecond, ofNat, epochFraction, epochAt, lineEpoch}
 use Rattle.solution.specs.Range.{leastRadius, mostRadius}
 use Rattle.tle.specs.Answer.{angleFits, radiusFits, inclinationFits, orbitFits, visible, nameFits, linesRefusal}
-use Rattle.tle.specs.Example.{epoch, orbit, first-line, second-line}
+use Rattle.tle.specs.Example.{epoch, exampleOrbit, first-line, second-line}
 use Rattle.tle.specs.Lines.{body1, body2, weightSum, checksumOf, closed, line1, line2}
-use Rattle.tle.specs.Printed.{matchesBehind, matches, columns1, columns2}
+use Rattle.tle.specs.Printed.{matchesBehind, matchesLine, columns1, columns2}
 use Rattle.tle.specs.declared.elements.Epoch.{Epoch}
 
 -- ---- dates and times
 
 -- a moment on the day d
 epoch-on : (t : Moment) (d : Date) → let s = secondsOf (t .seconds) - march1956 in dateOf (s / 86400) ≡ d
-    → epochOf t ≡ record { year = d .year; day = ofNat (ordinalOf d) ⊕ dayFraction (s % 86400) (t .nanos) }
+    → lineEpoch t ≡ record { year = d .year; day = ofNat (ordinalOf d) ⊕ epochFraction (s % 86400) (t .nanos) }
 unfolding epochAt
 epoch-on t d h = simp h
 
@@ -39,8 +39,8 @@ epoch-on t d h = simp h
 june-12 : dateOf 25670 ≡ record { year = 2026; month = 6; day = 12 }
 june-12 = sym (from-march 25670 2 (lit< tt) refl (lit< tt))
 
-epoch-is : epochOf epoch ≡ record { year = 2026; day = bits 0x4064600000000000 }
-unfolding secondsOf dayFraction ordinalOf leap monthsLength monthLength secondsPerHour secondsPerMinute nanosPerSecond secondsPerDay add mul div round ofInt ofBits
+epoch-is : lineEpoch epoch ≡ record { year = 2026; day = bits 0x4064600000000000 }
+unfolding secondsOf epochFraction ordinalOf leap monthsLength monthLength secondsPerHour secondsPerMinute nanosPerSecond secondsPerDay add mul div round ofInt ofBits
 epoch-is = epoch-on epoch (record { year = 2026; month = 6; day = 12 }) june-12
 
 -- ---- the lines
@@ -48,10 +48,10 @@ example-day : line1 (record { year = 2026; day = bits 0x4064600000000000 }) ≡ 
 unfolding line1 closed body1 fixedText cellAt checksumOf weightSum round ofBits
 example-day = refl
 
-pub example-1 : line1 (epochOf epoch) ≡ first-line
+pub example-1 : line1 (lineEpoch epoch) ≡ first-line
 example-1 = ap line1 epoch-is ∙ example-day
 
-pub example-2 : line2 orbit ≡ second-line
+pub example-2 : line2 exampleOrbit ≡ second-line
 unfolding line2 closed body2 fixedText cellAt checksumOf weightSum printedDegrees degreesOf degreesPerRadian fullCircle remEuclidOf meanMotionOf secondsPerDay full sqrtOf add mul div rem lt round ofBits
 example-2 = refl
 
@@ -62,22 +62,22 @@ day-text v = fixedText (code "0") 8 (nearestUnits 8 v) 12
 january-1 : dateOf 306 ≡ record { year = 1957; month = 1; day = 1 }
 january-1 = sym (from-january 306 0 (lit< tt) refl (lit≤ tt))
 
-first-moment : day-text (epochOf (record { seconds = negsuc 410227199; nanos = 0 }) .day) ≡ bytes "001.00000000"
-unfolding fixedText cellAt secondsOf dayFraction ordinalOf leap monthsLength monthLength secondsPerHour secondsPerMinute nanosPerSecond secondsPerDay add mul div round ofInt ofBits
+first-moment : day-text (lineEpoch (record { seconds = negsuc 410227199; nanos = 0 }) .day) ≡ bytes "001.00000000"
+unfolding fixedText cellAt secondsOf epochFraction ordinalOf leap monthsLength monthLength secondsPerHour secondsPerMinute nanosPerSecond secondsPerDay add mul div round ofInt ofBits
 first-moment = ap (λ (e : Epoch). day-text (e .day)) (epoch-on (record { seconds = negsuc 410227199; nanos = 0 }) (record { year = 1957; month = 1; day = 1 }) january-1)
 
 december-31 : dateOf 25872 ≡ record { year = 2026; month = 12; day = 31 }
 december-31 = sym (from-march 25872 2 (lit< tt) refl (lit< tt))
 
-last-of-2026 : day-text (epochOf (record { seconds = pos 1798761599; nanos = 999999999 }) .day) ≡ bytes "366.00000000"
-unfolding fixedText cellAt secondsOf dayFraction ordinalOf leap monthsLength monthLength secondsPerHour secondsPerMinute nanosPerSecond secondsPerDay add mul div round ofInt ofBits
+last-of-2026 : day-text (lineEpoch (record { seconds = pos 1798761599; nanos = 999999999 }) .day) ≡ bytes "366.00000000"
+unfolding fixedText cellAt secondsOf epochFraction ordinalOf leap monthsLength monthLength secondsPerHour secondsPerMinute nanosPerSecond secondsPerDay add mul div round ofInt ofBits
 last-of-2026 = ap (λ (e : Epoch). day-text (e .day)) (epoch-on (record { seconds = pos 1798761599; nanos = 999999999 }) (record { year = 2026; month = 12; day = 31 }) december-31)
 
 december-31-2056 : dateOf 36830 ≡ record { year = 2056; month = 12; day = 31 }
 december-31-2056 = sym (from-march 36830 0 (lit< tt) refl (lit< tt))
 
-last-moment : day-text (epochOf (record { seconds = pos 2745532799; nanos = 999999999 }) .day) ≡ bytes "367.00000000"
-unfolding fixedText cellAt secondsOf dayFraction ordinalOf leap monthsLength monthLength secondsPerHour secondsPerMinute nanosPerSecond secondsPerDay add mul div round ofInt ofBits
+last-moment : day-text (lineEpoch (record { seconds = pos 2745532799; nanos = 999999999 }) .day) ≡ bytes "367.00000000"
+unfolding fixedText cellAt secondsOf epochFraction ordinalOf leap monthsLength monthLength secondsPerHour secondsPerMinute nanosPerSecond secondsPerDay add mul div round ofInt ofBits
 last-moment = ap (λ (e : Epoch). day-text (e .day)) (epoch-on (record { seconds = pos 2745532799; nanos = 999999999 }) (record { year = 2056; month = 12; day = 31 }) december-31-2056)
 
 -- ---- angles: −0.0 rad prints 0.0000, −1e-20 rad 360.0000, π rad 180.0000; of 0.03125 and 0.09375 degrees the even one
@@ -110,10 +110,10 @@ letters zero = []
 letters (suc n) = code "A" ∷ letters n
 
 refusals :
-    linesRefusal [] orbit 141 ∷ linesRefusal (letters 24) orbit 165 ∷ linesRefusal (letters 25) orbit 200 ∷ linesRefusal (127 ∷ []) orbit 200 ∷ linesRefusal (letters 24) orbit 164
-    ∷ linesRefusal (letters 25) (record { a = orbit .a; i = orbit .i; raan0 = orbit .raan0; u0 = orbit .u0; epoch = record { seconds = pos 2745532800; nanos = 0 } }) 0
-    ∷ linesRefusal [] (record { a = nan; i = orbit .i; raan0 = orbit .raan0; u0 = orbit .u0; epoch = epoch }) 0
-    ∷ linesRefusal [] (record { a = orbit .a; i = orbit .i; raan0 = bits 0x7fac7b1f3cac7433; u0 = orbit .u0; epoch = epoch }) 141 ∷ []
+    linesRefusal [] exampleOrbit 141 ∷ linesRefusal (letters 24) exampleOrbit 165 ∷ linesRefusal (letters 25) exampleOrbit 200 ∷ linesRefusal (127 ∷ []) exampleOrbit 200 ∷ linesRefusal (letters 24) exampleOrbit 164
+    ∷ linesRefusal (letters 25) (record { a = exampleOrbit .a; i = exampleOrbit .i; raan0 = exampleOrbit .raan0; u0 = exampleOrbit .u0; epoch = record { seconds = pos 2745532800; nanos = 0 } }) 0
+    ∷ linesRefusal [] (record { a = nan; i = exampleOrbit .i; raan0 = exampleOrbit .raan0; u0 = exampleOrbit .u0; epoch = epoch }) 0
+    ∷ linesRefusal [] (record { a = exampleOrbit .a; i = exampleOrbit .i; raan0 = bits 0x7fac7b1f3cac7433; u0 = exampleOrbit .u0; epoch = epoch }) 141 ∷ []
     ≡ 0 ∷ 0 ∷ 11 ∷ 11 ∷ 21 ∷ 4 ∷ 11 ∷ 11 ∷ []
 unfolding linesRefusal orbitFits radiusFits inclinationFits angleFits leastRadius mostRadius pi nameFits visible inRange secondsOf degreesOf degreesPerRadian mul lt round ofBits
 refusals = refl
@@ -123,8 +123,8 @@ abbrev inclined : String → List ℕ
 inclined t = bytes "2 99999 " ++ bytes t ++ bytes "   0.0000 0000000   0.0000   0.0000 14.82366876000007"
 
 right-columns :
-    matches columns1 first-line ∷ matches columns2 second-line ∷ matches columns2 (inclined "  5.0000") ∷ matches columns2 (inclined " 05.0000") ∷ matches columns2 (inclined "1 5.0000")
-    ∷ matches columns2 (inclined "05 .0000") ∷ matches columns2 (inclined "   .0000") ∷ matches columns2 (inclined "  5. 000") ∷ []
+    matchesLine columns1 first-line ∷ matchesLine columns2 second-line ∷ matchesLine columns2 (inclined "  5.0000") ∷ matchesLine columns2 (inclined " 05.0000") ∷ matchesLine columns2 (inclined "1 5.0000")
+    ∷ matchesLine columns2 (inclined "05 .0000") ∷ matchesLine columns2 (inclined "   .0000") ∷ matchesLine columns2 (inclined "  5. 000") ∷ []
     ≡ true ∷ true ∷ true ∷ true ∷ false ∷ false ∷ false ∷ false ∷ []
 unfolding columns1 columns2 matchesBehind
 right-columns = refl

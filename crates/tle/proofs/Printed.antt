@@ -17,13 +17,13 @@ use Rattle.moment.specs.Range.{taken, givenOf}
 use Rattle.moment.specs.declared.Moment.{Moment}
 use Rattle.moment.specs.Time.{secondsOf}
 use Rattle.moment.proofs.Ranges.{at-is}
-use Rattle.tle.specs.Elements.{printedDegrees, meanMotionOf, epochOf}
+use Rattle.tle.specs.Elements.{printedDegrees, meanMotionOf, lineEpoch}
 use Rattle.tle.specs.Lines.{start1, rest1, start2, middle2, end2, body1, body2, checksumOf, closed, line1, line2, catalogOf}
 use Rattle.refusal.specs.Order as order
 use Rattle.refusal.specs.Order.{_if_}
 use Rattle.refusal.specs.Numbers.{moment-range, unprintable, short-memory}
 use Rattle.tle.specs.Answer.{orbitFits, nameFits, linesRefusal, Formats}
-use Rattle.tle.specs.Printed.{Class, only, digit, leading, later, isBlank, admits, matchesBehind, matches, exactly, columns1, columns2, readDigits, numberIn, HalfUnit, Checked, Printed}
+use Rattle.tle.specs.Printed.{Class, only, digit, leading, later, isBlank, admits, matchesBehind, matchesLine, exactly, columns1, columns2, readDigits, numberIn, HalfUnit, Checked, Printed}
 use Rattle.solution.specs.declared.SolvedOrbit.{SolvedOrbit}
 use Rattle.tle.specs.declared.Catalog.{Catalog}
 use Rattle.tle.specs.declared.elements.Epoch.{Epoch}
@@ -97,7 +97,7 @@ blank-column ks l q = right-cons (only 32) ks 32 l (λ b. tt) q
 
 -- a line is put together from the right
 line1-columns : (year day cs : ℕ) → cs < 10
-    → T (matches columns1 (start1 ++ (digitAt year 1 ∷ (digitAt year 0 ∷ (fixedText 48 8 day 12 ++ (rest1 ++ ((cs + 48) ∷ [])))))))
+    → T (matchesLine columns1 (start1 ++ (digitAt year 1 ∷ (digitAt year 0 ∷ (fixedText 48 8 day 12 ++ (rest1 ++ ((cs + 48) ∷ [])))))))
 unfolding columns1 Right
 line1-columns year day cs h =
     right-append (exactly start1) _ start1 _ (exact start1)
@@ -115,7 +115,7 @@ tail2 u n cs h =
     (blank-column _ _ (right-append (fieldClasses leading later 8 10) _ (fixedText 32 8 n 11) _ (motion-columns n) (right-append (exactly end2) _ end2 _ (exact end2) (digit-column [] cs [] h ends)))))
 
 line2-columns : (i r u n cs : ℕ) → cs < 10
-    → T (matches columns2 (start2 ++ (fixedText 32 4 i 8 ++ (32 ∷ (fixedText 32 4 r 8 ++ (middle2 ++ (fixedText 32 4 u 8 ++ (32 ∷ (fixedText 32 8 n 11 ++ (end2 ++ ((cs + 48) ∷ [])))))))))))
+    → T (matchesLine columns2 (start2 ++ (fixedText 32 4 i 8 ++ (32 ∷ (fixedText 32 4 r 8 ++ (middle2 ++ (fixedText 32 4 u 8 ++ (32 ∷ (fixedText 32 8 n 11 ++ (end2 ++ ((cs + 48) ∷ [])))))))))))
 unfolding columns2 Right
 line2-columns i r u n cs h =
     right-append (exactly start2) _ start2 _ (exact start2)
@@ -125,7 +125,7 @@ line2-columns i r u n cs h =
 
 -- ---- each line
 record First (e : Epoch) (l : List ℕ) : Type 0 where
-  columns : T (matches columns1 l)
+  columns : T (matchesLine columns1 l)
   sum : Checked l
   year : numberIn 19 20 l ≡ e .year % 100
   day : HalfUnit 8 (e .day) (numberIn 21 32 l)
@@ -146,7 +146,7 @@ line1-day : (e : Epoch) → numberIn 21 32 (line1 e) ≡ readDigits 0 (fixedText
 unfolding numberIn line1 closed body1 fixedText
 line1-day e = refl
 
-line1-matches : (e : Epoch) → T (matches columns1 (line1 e))
+line1-matches : (e : Epoch) → T (matchesLine columns1 (line1 e))
 unfolding line1 closed body1 fixedText
 line1-matches e = line1-columns (e .year) (nearestUnits 8 (e .day)) (checksumOf (body1 (e .year) (e .day))) (checksum-lt (body1 (e .year) (e .day)))
 
@@ -161,7 +161,7 @@ first e h =
     }
 
 record Second (o : SolvedOrbit) (l : List ℕ) : Type 0 where
-  columns : T (matches columns2 l)
+  columns : T (matchesLine columns2 l)
   sum : Checked l
   inclination : HalfUnit 4 (printedDegrees (o .i)) (numberIn 9 16 l)
   node : HalfUnit 4 (printedDegrees (o .raan0)) (numberIn 18 25 l)
@@ -208,9 +208,9 @@ line2-is : (o : SolvedOrbit)
 unfolding line2 closed body2 fixedText
 line2-is o = refl
 
-line2-matches : (o : SolvedOrbit) → T (matches columns2 (line2 o))
+line2-matches : (o : SolvedOrbit) → T (matchesLine columns2 (line2 o))
 line2-matches o =
-    subst (λ (l : List ℕ). T (matches columns2 l)) (line2-is o)
+    subst (λ (l : List ℕ). T (matchesLine columns2 l)) (line2-is o)
     (line2-columns (nearestUnits 4 (printedDegrees (o .i))) (nearestUnits 4 (printedDegrees (o .raan0))) (nearestUnits 4 (printedDegrees (o .u0))) (nearestUnits 8 (meanMotionOf (o .a))) (checksumOf (bodyOf o)) (checksum-lt (bodyOf o)))
 
 second : (o : SolvedOrbit) → T (orbitFits o) → Second o (line2 o)
@@ -231,16 +231,16 @@ second o h =
     }
 
 -- ---- the theorem
-epoch-fits : (t : Moment) → taken t ≡ true → UpTo 367 (epochOf t .day)
+epoch-fits : (t : Moment) → taken t ≡ true → UpTo 367 (lineEpoch t .day)
 unfolding givenOf
 epoch-fits t h = epoch-up (secondsOf (t .seconds)) (t .nanos) (at-is (t .seconds) (t .nanos) (record { secs = secondsOf (t .seconds); nanos = t .nanos }) (simp h) .accepted)
 
-pub printed : (o : SolvedOrbit) → taken (o .epoch) ≡ true → T (orbitFits o) → Printed o (line1 (epochOf (o .epoch))) (line2 o)
+pub printed : (o : SolvedOrbit) → taken (o .epoch) ≡ true → T (orbitFits o) → Printed o (line1 (lineEpoch (o .epoch))) (line2 o)
 printed o h g =
-    let a = first (epochOf (o .epoch)) (epoch-fits (o .epoch) h) in
+    let a = first (lineEpoch (o .epoch)) (epoch-fits (o .epoch) h) in
     let b = second o g in
     record {
-      length-1 = line1-length (epochOf (o .epoch));
+      length-1 = line1-length (lineEpoch (o .epoch));
       length-2 = line2-length o;
       columns-1 = a .columns;
       columns-2 = b .columns;
@@ -267,7 +267,7 @@ accepted : (name : List ℕ) (o : SolvedOrbit) (room : ℕ) → linesRefusal nam
 unfolding linesRefusal
 accepted name o room e = passed (taken (o .epoch)) (orbitFits o) (nameFits name) (ltb room (length name + 141)) e
 
-catalog-is : (name rest : List ℕ) (o : SolvedOrbit) → catalogOf name o ++ rest ≡ name ++ (10 ∷ (line1 (epochOf (o .epoch)) ++ (10 ∷ (line2 o ++ (10 ∷ rest)))))
+catalog-is : (name rest : List ℕ) (o : SolvedOrbit) → catalogOf name o ++ rest ≡ name ++ (10 ∷ (line1 (lineEpoch (o .epoch)) ++ (10 ∷ (line2 o ++ (10 ∷ rest)))))
 unfolding catalogOf
 catalog-is name rest o = simp append-assoc
 
@@ -285,8 +285,8 @@ format-printed name out out′ o r f z =
     let e : linesRefusal name o (length out) ≡ 0 = sym (f .refusal) ∙ z in
     let a = accepted name o (length out) e in
     let rest = drop (length name + 141) out in
-    let t : out′ ≡ name ++ (10 ∷ (line1 (epochOf (o .epoch)) ++ (10 ∷ (line2 o ++ (10 ∷ rest))))) =
+    let t : out′ ≡ name ++ (10 ∷ (line1 (lineEpoch (o .epoch)) ++ (10 ∷ (line2 o ++ (10 ∷ rest))))) =
     f .text ∙ ap (λ (n : ℕ). cond (eqb n 0) (catalogOf name o ++ rest) out) e ∙ catalog-is name rest o in
-    subst (λ (l : List ℕ). Printed o l (take 69 (drop (length name + 71) out′))) (sym (ap (λ (x : List ℕ). take 69 (drop (length name + 1) x)) t ∙ first-at name (line1 (epochOf (o .epoch))) (10 ∷ (line2 o ++ (10 ∷ rest))) (line1-length (epochOf (o .epoch)))))
-    (subst (λ (l : List ℕ). Printed o (line1 (epochOf (o .epoch))) l) (sym (ap (λ (x : List ℕ). take 69 (drop (length name + 71) x)) t ∙ second-at name (line1 (epochOf (o .epoch))) (line2 o) (10 ∷ rest) (line1-length (epochOf (o .epoch))) (line2-length o)))
+    subst (λ (l : List ℕ). Printed o l (take 69 (drop (length name + 71) out′))) (sym (ap (λ (x : List ℕ). take 69 (drop (length name + 1) x)) t ∙ first-at name (line1 (lineEpoch (o .epoch))) (10 ∷ (line2 o ++ (10 ∷ rest))) (line1-length (lineEpoch (o .epoch)))))
+    (subst (λ (l : List ℕ). Printed o (line1 (lineEpoch (o .epoch))) l) (sym (ap (λ (x : List ℕ). take 69 (drop (length name + 71) x)) t ∙ second-at name (line1 (lineEpoch (o .epoch))) (line2 o) (10 ∷ rest) (line1-length (lineEpoch (o .epoch))) (line2-length o)))
     (printed o (a .0) (a .1)))

@@ -20,10 +20,10 @@ use Rattle.roots.proofs.Whole.{isqrt-whole}
 use Rattle.decimal.specs.Fixed.{within, printable}
 use Rattle.decimal.proofs.Printable.{yes, between}
 use Rattle.decimal.proofs.Theorems.{decimal-le}
-use Rattle.tle.specs.Elements.{ofNat, fullCircle-bits, printedDegrees, secondsPerDay-bits, meanMotionOf, secondsPerHour-bits, secondsPerMinute-bits, nanosPerSecond-bits, dayFraction}
+use Rattle.tle.specs.Elements.{ofNat, fullCircle-bits, printedDegrees, secondsPerDay-bits, meanMotionOf, secondsPerHour-bits, secondsPerMinute-bits, nanosPerSecond-bits, epochFraction}
 use Rattle.orbit.specs.Orbit.{mu-bits}
 use Rattle.solution.specs.Range.{leastRadius, leastRadius-bits, mostRadius, mostRadius-bits}
-use Rattle.tle.specs.Answer.{inside}
+use Rattle.tle.specs.Answer.{fromTo}
 use Rattle.laws.proofs.Numbers.{lt-or-ge}
 
 -- ---- v is not below zero, and at most m
@@ -124,16 +124,16 @@ parts-up secs nanos h k =
     let n = nanos-up (ofNat nanos) (nat-up nanos 999999999 999999999 0 k (unfold round in refl)) in
     part-up _ (add-up 86399 1 675 7 _ _ d n (unfold round in refl))
 
-fraction-up : (secs nanos : ℕ) → secs < 86400 → nanos ≤ 999999999 → Within false 1 1 (dayFraction secs nanos)
-unfolding dayFraction
+fraction-up : (secs nanos : ℕ) → secs < 86400 → nanos ≤ 999999999 → Within false 1 1 (epochFraction secs nanos)
+unfolding epochFraction
 fraction-up secs nanos h k = simp (← secondsPerHour-bits, ← secondsPerMinute-bits, ← nanosPerSecond-bits, ← secondsPerDay-bits) (parts-up secs nanos h k)
 
-pub day-up : (day secs nanos : ℕ) → day ≤ 366 → secs < 86400 → nanos ≤ 999999999 → UpTo 367 (ofNat day ⊕ dayFraction secs nanos)
+pub day-up : (day secs nanos : ℕ) → day ≤ 366 → secs < 86400 → nanos ≤ 999999999 → UpTo 367 (ofNat day ⊕ epochFraction secs nanos)
 day-up day secs nanos h k l =
     up-to 367 _ (lit< tt) (add-up 366 1 367 0 _ _ (nat-up day 366 183 1 h (unfold round in refl)) (fraction-up secs nanos k l) (unfold round in refl))
 
 -- ---- the mean motion
-orbit-between : (a : Float) → T (isFinite a) → T (inside (bits 0x4158cba800000000) (bits 0x417312d000000000) a) → Between 6500000 20000000 a
+orbit-between : (a : Float) → T (isFinite a) → T (fromTo (bits 0x4158cba800000000) (bits 0x417312d000000000) a) → Between 6500000 20000000 a
 unfolding Between lt ofBits
 orbit-between nan f t = absurd f
 orbit-between (inf s) f t = absurd f
@@ -218,9 +218,9 @@ turns-up (fin true m e) w = absurd (true≢false (w .0))
 turns-up (fin false m e) w =
     round-within binary64 false (m * up e * 2 ^ 47) (884279719003555 * down e) 54 1 27 (pos 1) (mul-pos (lit< tt) (down-pos e)) (lit< tt) (omega (arith, w .1)) (unfold round in refl)
 
-motion-up : (a : Float) → T (isFinite a) → T (inside (bits 0x4158cba800000000) (bits 0x417312d000000000) a) → UpTo 54 (sqrtOf (bits 0x42f6a8665bda5400 ⊘ (a ⊗ a ⊗ a)) ⊗ bits 0x40f5180000000000 ⊘ bits 0x401921fb54442d18)
+motion-up : (a : Float) → T (isFinite a) → T (fromTo (bits 0x4158cba800000000) (bits 0x417312d000000000) a) → UpTo 54 (sqrtOf (bits 0x42f6a8665bda5400 ⊘ (a ⊗ a ⊗ a)) ⊗ bits 0x40f5180000000000 ⊘ bits 0x401921fb54442d18)
 motion-up a f t = up-to 54 _ (lit< tt) (turns-up _ (day-times _ (sqrt-up _ (quotient-up _ (cube-between a (orbit-between a f t))))))
 
-pub mean-motion-up : (a : Float) → T (isFinite a) → T (inside leastRadius mostRadius a) → UpTo 54 (meanMotionOf a)
+pub mean-motion-up : (a : Float) → T (isFinite a) → T (fromTo leastRadius mostRadius a) → UpTo 54 (meanMotionOf a)
 unfolding meanMotionOf
 mean-motion-up a f t = simp (← mu-bits, ← secondsPerDay-bits, ← full-bits) (motion-up a f (simp (← leastRadius-bits, ← mostRadius-bits) at t))

@@ -19,18 +19,18 @@ use Rattle.tle.specs.declared.Catalog.{Catalog}
 -- ---- orbit and name: refusal 11
 
 -- v is from lo to hi, the ends included
-abbrev pub inside : Float → Float → Float → Bool
-inside lo hi v = not (lt v lo || lt hi v)
+abbrev pub fromTo : Float → Float → Float → Bool
+fromTo lo hi v = not (lt v lo || lt hi v)
 
 -- an angle and its degrees are finite
 unfoldable pub angleFits : Float → Bool
 angleFits x = isFinite x && isFinite (degreesOf x)
 
 unfoldable pub radiusFits : Float → Bool
-radiusFits a = isFinite a && inside leastRadius mostRadius a
+radiusFits a = isFinite a && fromTo leastRadius mostRadius a
 
 unfoldable pub inclinationFits : Float → Bool
-inclinationFits i = angleFits i && inside (bits 0) pi i
+inclinationFits i = angleFits i && fromTo (bits 0) pi i
 
 unfoldable pub orbitFits : SolvedOrbit → Bool
 orbitFits o = radiusFits (o .a) && (inclinationFits (o .i) && (angleFits (o .raan0) && angleFits (o .u0)))

@@ -69,8 +69,8 @@ abbrev pub ofNat : ℕ → Float
 ofNat n = ofInt binary64 (pos n)
 
 -- the part of a day after so many seconds and nanoseconds
-unfoldable pub dayFraction : ℕ → ℕ → Float
-dayFraction secs nanos =
+unfoldable pub epochFraction : ℕ → ℕ → Float
+epochFraction secs nanos =
     (ofNat (secs / 3600) ⊗ secondsPerHour ⊕ ofNat (secs / 60 % 60) ⊗ secondsPerMinute ⊕ ofNat (secs % 60) ⊕ ofNat nanos ⊘ nanosPerSecond)
     ⊘ secondsPerDay
 
@@ -79,7 +79,7 @@ unfoldable pub epochAt : ℕ → ℕ → Epoch
 epochAt secs nanos =
     let s = secs - march1956 in
     let date = dateOf (s / perDay) in
-    record { year = date .year; day = ofNat (ordinalOf date) ⊕ dayFraction (s % perDay) nanos }
+    record { year = date .year; day = ofNat (ordinalOf date) ⊕ epochFraction (s % perDay) nanos }
 
-abbrev pub epochOf : Moment → Epoch
-epochOf t = epochAt (secondsOf (t .seconds)) (t .nanos)
+abbrev pub lineEpoch : Moment → Epoch
+lineEpoch t = epochAt (secondsOf (t .seconds)) (t .nanos)

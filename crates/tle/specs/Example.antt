@@ -10,8 +10,8 @@ use Rattle.solution.specs.declared.SolvedOrbit.{SolvedOrbit}
 abbrev pub epoch : Moment
 epoch = record { seconds = pos 1781222400; nanos = 0 }
 
-abbrev pub orbit : SolvedOrbit
-orbit = record { a = bits 0x415ab3f000000000; i = bits 0x3ff921fb54442d18; raan0 = bits 0; u0 = bits 0; epoch = epoch }
+abbrev pub exampleOrbit : SolvedOrbit
+exampleOrbit = record { a = bits 0x415ab3f000000000; i = bits 0x3ff921fb54442d18; raan0 = bits 0; u0 = bits 0; epoch = epoch }
 
 abbrev pub first-line : List ℕ
 first-line = bytes "1 99999U 26999A   26163.00000000  .00000000  00000-0  00000-0 0  9998"

@@ -6,7 +6,7 @@ use lib.Dec.{leb, eqb}
 use lib.Ieee.{Float}
 use Rattle.text.specs.Text.{bytes, code}
 use Rattle.decimal.specs.Fixed.{nearestUnits, digitAt, fixedText}
-use Rattle.tle.specs.Elements.{printedDegrees, meanMotionOf, epochOf}
+use Rattle.tle.specs.Elements.{printedDegrees, meanMotionOf, lineEpoch}
 use Rattle.solution.specs.declared.SolvedOrbit.{SolvedOrbit}
 use Rattle.tle.specs.declared.elements.Epoch.{Epoch}
 
@@ -65,4 +65,4 @@ line2 o = closed (body2 (printedDegrees (o .i)) (printedDegrees (o .raan0)) (pri
 
 -- name and lines, each with a line feed: 141 bytes and the name's
 unfoldable pub catalogOf : List ℕ → SolvedOrbit → List ℕ
-catalogOf name o = name ++ code "\n" ∷ line1 (epochOf (o .epoch)) ++ code "\n" ∷ line2 o ++ bytes "\n"
+catalogOf name o = name ++ code "\n" ∷ line1 (lineEpoch (o .epoch)) ++ code "\n" ∷ line2 o ++ bytes "\n"

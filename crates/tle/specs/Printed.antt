@@ -10,7 +10,7 @@ use lib.Ieee.Positive.{num, den}
 use Rattle.text.specs.Text.{bytes, code}
 use Rattle.decimal.specs.Fixed.{within}
 use Rattle.decimal.specs.Read.{isDigit}
-use Rattle.tle.specs.Elements.{printedDegrees, meanMotionOf, epochOf}
+use Rattle.tle.specs.Elements.{printedDegrees, meanMotionOf, lineEpoch}
 use Rattle.tle.specs.Lines.{start1, rest1, start2, middle2, end2, checksumOf}
 use Rattle.solution.specs.declared.SolvedOrbit.{SolvedOrbit}
 
@@ -40,38 +40,38 @@ matchesBehind b (k ∷ ks) [] = false
 matchesBehind b (k ∷ ks) (c ∷ l) = admits k b c && matchesBehind c ks l
 
 -- of a whole line, before whose first byte there is none
-abbrev pub matches : List Class → List ℕ → Bool
-matches ks l = matchesBehind 0 ks l
+abbrev pub matchesLine : List Class → List ℕ → Bool
+matchesLine ks l = matchesBehind 0 ks l
 
 abbrev pub exactly : List ℕ → List Class
 exactly [] = []
 exactly (c ∷ l) = only c ∷ exactly l
 
 -- n columns of digits
-abbrev pub digits : ℕ → List Class
-digits zero = []
-digits (suc n) = digit ∷ digits n
+abbrev pub digitColumns : ℕ → List Class
+digitColumns zero = []
+digitColumns (suc n) = digit ∷ digitColumns n
 
 abbrev pub point : List Class
 point = exactly (bytes ".")
 
-abbrev pub blank : List Class
-blank = exactly (bytes " ")
+abbrev pub blankColumn : List Class
+blankColumn = exactly (bytes " ")
 
 -- year, day of the year and checksum
 unfoldable pub columns1 : List Class
-columns1 = exactly start1 ++ digits 2 ++ digits 3 ++ point ++ digits 8 ++ exactly rest1 ++ digits 1
+columns1 = exactly start1 ++ digitColumns 2 ++ digitColumns 3 ++ point ++ digitColumns 8 ++ exactly rest1 ++ digitColumns 1
 
 abbrev pub angleColumns : List Class
-angleColumns = leading ∷ later ∷ digits 1 ++ point ++ digits 4
+angleColumns = leading ∷ later ∷ digitColumns 1 ++ point ++ digitColumns 4
 
 abbrev pub motionColumns : List Class
-motionColumns = leading ∷ digits 1 ++ point ++ digits 8
+motionColumns = leading ∷ digitColumns 1 ++ point ++ digitColumns 8
 
 -- inclination, node, mean anomaly, mean motion and checksum
 unfoldable pub columns2 : List Class
 columns2 =
-    exactly start2 ++ angleColumns ++ blank ++ angleColumns ++ exactly middle2 ++ angleColumns ++ blank ++ motionColumns ++ exactly end2 ++ digits 1
+    exactly start2 ++ angleColumns ++ blankColumn ++ angleColumns ++ exactly middle2 ++ angleColumns ++ blankColumn ++ motionColumns ++ exactly end2 ++ digitColumns 1
 
 -- ---- the number in columns a to b, its point and blanks left out
 unfoldable pub readDigits : ℕ → List ℕ → ℕ
@@ -94,12 +94,12 @@ Checked l = numberIn 69 69 l ≡ checksumOf (take 68 l)
 pub record Printed (o : SolvedOrbit) (l1 l2 : List ℕ) : Type 0 where
   pub length-1 : length l1 ≡ 69
   pub length-2 : length l2 ≡ 69
-  pub columns-1 : T (matches columns1 l1)
-  pub columns-2 : T (matches columns2 l2)
+  pub columns-1 : T (matchesLine columns1 l1)
+  pub columns-2 : T (matchesLine columns2 l2)
   pub checksum-1 : Checked l1
   pub checksum-2 : Checked l2
-  pub year : numberIn 19 20 l1 ≡ epochOf (o .epoch) .year % 100
-  pub day-of-year : HalfUnit 8 (epochOf (o .epoch) .day) (numberIn 21 32 l1)
+  pub year : numberIn 19 20 l1 ≡ lineEpoch (o .epoch) .year % 100
+  pub day-of-year : HalfUnit 8 (lineEpoch (o .epoch) .day) (numberIn 21 32 l1)
   pub inclination : HalfUnit 4 (printedDegrees (o .i)) (numberIn 9 16 l2)
   pub node : HalfUnit 4 (printedDegrees (o .raan0)) (numberIn 18 25 l2)
   pub eccentricity : numberIn 27 33 l2 ≡ 0

@@ -3,8 +3,8 @@
 ghost use mathlib.Core.Path.{_≡_};
 ghost use Rattle.float.specs.Trig.{isFinite};
 ghost use Rattle.moment.specs.Range.{Within};
-ghost use Rattle.tle.specs.Elements.{printedDegrees, meanMotionOf, dayFraction, epochAt};
-ghost use Rattle.tle.specs.Answer.{inside, angleFits, radiusFits, inclinationFits, orbitFits, visibleByte, nameFits};
+ghost use Rattle.tle.specs.Elements.{printedDegrees, meanMotionOf, epochFraction, epochAt};
+ghost use Rattle.tle.specs.Answer.{fromTo, angleFits, radiusFits, inclinationFits, orbitFits, visibleByte, nameFits};
 use moment::Instant;
 use solution::SolvedOrbit;
 
@@ -22,7 +22,7 @@ pub fn mean_motion(a: f64) -> f64
 }
 
 fn day_fraction(secs: u32, nanos: u32) -> f64
-    ensures { λ r. ⌜ r ≡ dayFraction secs nanos ⌝ }
+    ensures { λ r. ⌜ r ≡ epochFraction secs nanos ⌝ }
 {
     let hour = (secs / 3600) as f64;
     let minute = (secs / 60 % 60) as f64;
@@ -59,7 +59,7 @@ fn finite(v: f64) -> bool
 }
 
 fn inside_of(lo: f64, hi: f64, v: f64) -> bool
-    ensures { λ r. ⌜ r ≡ inside lo hi v ⌝ }
+    ensures { λ r. ⌜ r ≡ fromTo lo hi v ⌝ }
 {
     if v < lo {
         return false;

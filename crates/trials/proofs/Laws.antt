@@ -14,7 +14,7 @@ use Rattle.float.specs.Ops.{_⊗_, _⊘_, bits}
 use Rattle.orbit.specs.declared.doppler.Station.{Station}
 use Rattle.residuals.specs.Samples.{Passes}
 use Rattle.residuals.specs.Residuals.{each, sumOf, residuals, penalisedSum}
-use Rattle.residuals.specs.Answers.{sumAnswer, refusalOf, Summed, Filled}
+use Rattle.residuals.specs.Answers.{sumAnswer, filledRefusal, Summed, Filled}
 use Rattle.residuals.specs.declared.Sum.{Sum}
 use Rattle.residuals.specs.declared.Sum.the-variants.{Value, Refused}
 use Rattle.residuals.proofs.Laws.{filled-not}
@@ -67,7 +67,7 @@ module _ (second : Bool) (g : Station) (d : Passes) (x : List Float) where
   -- ---- the residuals at hand
 
   pub known-filled : (xs : List Float) → some xs ≡ residuals second g d x → Filled 0 xs (residuals second g d x)
-  known-filled xs h = record { written = h; number = ap refusalOf h }
+  known-filled xs h = record { written = h; number = ap filledRefusal h }
 
   pub filled-known : (n : ℕ) (xs : List Float) → Filled n xs (residuals second g d x) → n ≡ 0 → some xs ≡ residuals second g d x
   filled-known n xs f z = rw z at (f .written)
@@ -85,7 +85,7 @@ module _ (second : Bool) (g : Station) (d : Passes) (x : List Float) where
     unfolding onward penalisedSum
     onward-far n xs f h =
         let z = filled-far n xs f h in
-        rw (here, ← z) (ap refused (f .number ∙ ap refusalOf (sym z)))
+        rw (here, ← z) (ap refused (f .number ∙ ap filledRefusal (sym z)))
 
     pub onward-short : (xs : List Float) → some xs ≡ residuals second g d x → enough ≡ false → short ≡ goal
     unfolding onward penalisedSum

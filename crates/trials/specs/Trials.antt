@@ -26,7 +26,7 @@ abbrev pub stateAfter : State → After
 stateAfter s = record { search = stateSearch s; ended = s .ended }
 
 -- what the trials ask: the fit's samples, and room for the table
-pub record Fits (second : Bool) (g : Station) (d : Passes) (turns : List Float) (room : ℕ) : Type 0 where
+pub record TrialsAsk (second : Bool) (g : Station) (d : Passes) (turns : List Float) (room : ℕ) : Type 0 where
   pub samples : Samples g d turns
   pub table : cellsOf second d ≤ room
 
@@ -50,7 +50,7 @@ pub record Tries (second : Bool) (g : Station) (d : Passes) (s : Search) (r : Li
 -- ---- its second half
 
 -- what it asks: room for the residuals, and those of the set x where they are said to be known
-pub record Held (second known : Bool) (g : Station) (d : Passes) (x r : List Float) : Type 0 where
+pub record HeldResiduals (second known : Bool) (g : Station) (d : Passes) (x r : List Float) : Type 0 where
   pub room : length (d .times) + 3 * length (d .counts) ≤ length r
   pub held : known ≡ true → some (take (rowsIn second d) r) ≡ residuals second g d x
 

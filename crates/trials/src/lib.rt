@@ -12,7 +12,7 @@ ghost use Rattle.refine.specs.Advance.{advanceOf, cellsOf};
 ghost use Rattle.normal.specs.Step.{next};
 ghost use Rattle.normal.specs.Answers.{outcome};
 ghost use Rattle.book.specs.Book.{openBook, judged, arrival, onward, book};
-ghost use Rattle.trials.specs.Trials.{stateSearch, stateAfter, Fits, Tries, Held, Arrives, Follows, Runs};
+ghost use Rattle.trials.specs.Trials.{stateSearch, stateAfter, TrialsAsk, Tries, HeldResiduals, Arrives, Follows, Runs};
 use book::Ending;
 use normal::Step;
 use orbit::doppler::Station;
@@ -211,7 +211,7 @@ fn at_hand(
     r: &mut [f64],
 ) -> u32
     requires { ⌜ Samples (p .station) (passesOf (now counts) (now times) (now freqs)) (now turns)
-        × Held (p .second) known (p .station) (passesOf (now counts) (now times) (now freqs)) (p .params) (now r) ⌝ }
+        × HeldResiduals (p .second) known (p .station) (passesOf (now counts) (now times) (now freqs)) (p .params) (now r) ⌝ }
     ensures { λ k. ⌜ Filled k (take (rowsOf (p .second) (length (now (times .entry))) (length (now (counts .entry)))) (now (r .exit)))
         (residuals (p .second) (p .station) (passesOf (now (counts .entry)) (now (times .entry)) (now (freqs .entry))) (p .params)) ⌝ }
 {
@@ -237,8 +237,8 @@ pub fn follow(
     r: &mut [f64],
     scratch: &mut [f64],
 ) -> Followed
-    requires { ⌜ Fits (w .second) (w .station) (passesOf (now counts) (now times) (now freqs)) (now turns) (length (now scratch))
-        × Held (w .second) (t .kept) (w .station) (passesOf (now counts) (now times) (now freqs)) (t .state .params) (now r) ⌝ }
+    requires { ⌜ TrialsAsk (w .second) (w .station) (passesOf (now counts) (now times) (now freqs)) (now turns) (length (now scratch))
+        × HeldResiduals (w .second) (t .kept) (w .station) (passesOf (now counts) (now times) (now freqs)) (t .state .params) (now r) ⌝ }
     ensures { λ f. ⌜ Follows (w .second) (w .enough) (w .station) (passesOf (now (counts .entry)) (now (times .entry)) (now (freqs .entry))) (stateSearch (t .state))
         (now (r .exit)) (now (scratch .entry)) (now (scratch .exit)) f ⌝ }
 {
@@ -288,7 +288,7 @@ pub fn refine_trials(
     log: &mut [f64],
     scratch: &mut [f64],
 ) -> Trials
-    requires { ⌜ Fits (w .second) (w .station) (passesOf (now counts) (now times) (now freqs)) (now turns) (length (now scratch)) × (most ≤ length (now log)) × (most ≤ 150) ⌝ }
+    requires { ⌜ TrialsAsk (w .second) (w .station) (passesOf (now counts) (now times) (now freqs)) (now turns) (length (now scratch)) × (most ≤ length (now log)) × (most ≤ 150) ⌝ }
     ensures { λ t. ⌜ Runs (book (penalisedSum (w .second) (w .station) (passesOf (now (counts .entry)) (now (times .entry)) (now (freqs .entry))))
         (advanceOf (w .second) (w .station) (passesOf (now (counts .entry)) (now (times .entry)) (now (freqs .entry)))) (w .enough) start most) (now (log .entry)) (now (log .exit))
         (cellsOf (w .second) (passesOf (now (counts .entry)) (now (times .entry)) (now (freqs .entry)))) (now (scratch .entry)) (now (scratch .exit)) t ⌝ }

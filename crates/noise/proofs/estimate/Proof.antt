@@ -8,7 +8,7 @@ use borrow.Author.Tests.{not-false}
 use Rattle.loops.specs.Loop.{for}
 use Rattle.loops.proofs.Laws.{Left, begins, again, ends}
 use Rattle.pass_set.proofs.Laws.{sizes}
-use Rattle.noise.specs.Noise.{withPass, opening}
+use Rattle.noise.specs.Noise.{withPass, openSums}
 use Rattle.noise.proofs.Fives.{disagree, agree}
 use Rattle.noise.proofs.estimate.Statement.{statement}
 use Rattle.noise.proofs.estimate.Tie as tie
@@ -16,7 +16,7 @@ use Rattle.noise.proofs.estimate.Tie as tie
 abbrev Inv-loop : tie.InvT-loop
 Inv-loop counts times freqs s₀ p₀ p-end s p =
     (p ≤ length counts) × (length counts ≤ 16) × (s .at ≤ p * 4294967295)
-    × Left p (length counts) (withPass counts times freqs) s (for 0 (length counts) (withPass counts times freqs) opening)
+    × Left p (length counts) (withPass counts times freqs) s (for 0 (length counts) (withPass counts times freqs) openSums)
 
 abbrev μ-loop : tie.MeasureT-loop
 μ-loop counts times freqs s₀ p₀ p-end s p = length counts - p

@@ -1,10 +1,10 @@
 use borrow.Author.Needs.{needs}
-use Rattle.noise.specs.Noise.{sizeOf}
+use Rattle.noise.specs.Noise.{weightSize}
 use Rattle.noise.proofs.size.Statement.{statement}
 use Rattle.noise.proofs.size.Tie as tie
 
 returns : tie.Need-returns
-unfolding sizeOf
+unfolding weightSize
 returns c = c .sqrt .ensures
 
 pub size-spec : {M : Type 1} → statement M

@@ -11,7 +11,7 @@ use lib.Ieee.{Float}
 use Rattle.pass_set.specs.PassSet.{total}
 use Rattle.residuals.specs.Samples.{passesOf}
 use Rattle.residuals.specs.Residuals.{_then_, residual, samples, passes}
-use Rattle.residuals.specs.Answers.{filled, refusalOf}
+use Rattle.residuals.specs.Answers.{filled, filledRefusal}
 use Rattle.orbit.proofs.Hoisted.{sight-sound}
 use Rattle.residuals.proofs.Samples.{seen, seen-prediction}
 use Rattle.residuals.proofs.Laws.{then-nil, total-next, total-end, residual-is, residual-far, only-far, far-filled, into-pass, next-sample, too-far, past-pass, past-passes}
@@ -150,7 +150,7 @@ returns c =
     let whole = ap (λ (n : ℕ). some (take n (head .passes .out))) (sym end) ∙ past-passes _ _ _ (head .passes .p) _ _ (c .passes-test .left) (head .passes .inv .whole) in
     record {
       written = ap (λ (n : ℕ). filled n (take (length (args .times .now)) (head .passes .out))) (head .passes .inv .clear) ∙ whole;
-      number = head .passes .inv .clear ∙ ap refusalOf whole;
+      number = head .passes .inv .clear ∙ ap filledRefusal whole;
     }
 
 returns-2 : tie.Need-returns-2 Inv-loop μ-loop Inv-passes μ-passes

@@ -4,7 +4,7 @@ use mathlib.Core.Path.{_∙_, ap}
 use Prim.Native.Nat.{_≤_, _-_}
 use Rattle.loops.specs.Loop.{for}
 use Rattle.loops.proofs.Laws.{Left, ends, loops}
-use Rattle.search.specs.Sum.{sumOf}
+use Rattle.search.specs.Sum.{fixedSum}
 use Rattle.search.specs.Step.{stepOf}
 use Rattle.search.specs.Search.{finishedOf, trajectoryOf}
 use Rattle.search.proofs.langevin_trajectory.Statement.{statement}
@@ -12,7 +12,7 @@ use Rattle.search.proofs.langevin_trajectory.Tie as tie
 
 abbrev Inv-loop : tie.InvT-loop
 Inv-loop counts times freqs centers table o w₀ k₀ w k =
-    (k ≤ 15) × Left k 15 (stepOf (sumOf counts times freqs centers o)) w (for 0 15 (stepOf (sumOf counts times freqs centers o)) w₀)
+    (k ≤ 15) × Left k 15 (stepOf (fixedSum counts times freqs centers o)) w (for 0 15 (stepOf (fixedSum counts times freqs centers o)) w₀)
 
 abbrev μ-loop : tie.MeasureT-loop
 μ-loop counts times freqs centers table o w₀ k₀ w k = 15 - k

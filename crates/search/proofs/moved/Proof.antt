@@ -2,13 +2,13 @@
 use lib.Ieee.{ofBits, round}
 use Rattle.float.specs.Ops.{two}
 use Rattle.float.specs.Trig.{pi}
-use Rattle.search.specs.Step.{movedOf}
+use Rattle.search.specs.Step.{movedAngle}
 use borrow.Author.Needs.{needs}
 use Rattle.search.proofs.moved.Statement.{statement}
 use Rattle.search.proofs.moved.Tie as tie
 
 returns : tie.Need-returns
-unfolding movedOf two pi ofBits round
+unfolding movedAngle two pi ofBits round
 returns c = simp (c .rem-euclid .ensures)
 
 pub moved-spec : {M : Type 1} → statement M

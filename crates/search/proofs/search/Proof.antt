@@ -6,7 +6,7 @@ use Prim.Native.Nat.{_≤_, _-_}
 use lib.Ieee.{ofBits}
 use Rattle.loops.proofs.Laws.{Left, begins, again, ends}
 use Rattle.float.specs.Ops.{largest}
-use Rattle.search.specs.Sum.{sumOf}
+use Rattle.search.specs.Sum.{fixedSum}
 use Rattle.search.specs.Search.{generatorOf, withStart, searchOf}
 use Rattle.search.proofs.Draws.{start-is, next-rng, next-best, advanced}
 use Rattle.search.proofs.search.Statement.{statement}
@@ -14,7 +14,7 @@ use Rattle.search.proofs.search.Tie as tie
 
 abbrev Inv-loop : tie.InvT-loop
 Inv-loop counts times freqs centers table o first count rng₀ best₀ end j₀ rng best j =
-    (j ≤ end) × (rng ≡ generatorOf j) × Left j end (withStart (sumOf counts times freqs centers o)) best (searchOf (sumOf counts times freqs centers o) first count)
+    (j ≤ end) × (rng ≡ generatorOf j) × Left j end (withStart (fixedSum counts times freqs centers o)) best (searchOf (fixedSum counts times freqs centers o) first count)
 
 abbrev μ-loop : tie.MeasureT-loop
 μ-loop counts times freqs centers table o first count rng₀ best₀ end j₀ rng best j = end - j

@@ -1,15 +1,15 @@
 -- `first_of` meets its contract. Assumes nothing.
 use borrow.Author.Tests.{eq-eqb, ne-eqb}
-use Rattle.survey.specs.Survey.{firstOf}
+use Rattle.survey.specs.Survey.{firstLine}
 use Rattle.survey.proofs.first_of.Statement.{statement}
 use Rattle.survey.proofs.first_of.Tie as tie
 
 returns : tie.Need-returns
-unfolding firstOf
+unfolding firstLine
 returns c = rw (eq-eqb (c .before .args .first) 0 (c .if1 .taken))
 
 returns-2 : tie.Need-returns-2
-unfolding firstOf
+unfolding firstLine
 returns-2 c = rw (ne-eqb (c .before .args .first) 0 (c .if1 .left))
 
 pub first-of-spec : {M : Type 1} → statement M

@@ -3,7 +3,8 @@ use mathlib.Core.Path.{ap}
 use borrow.Author.Needs.{needs}
 use lib.IntN.{pos}
 use lib.ListN.{getD}
-use Rattle.approach.specs.Sums.{sampleOf, frequencyOf}
+use Rattle.orbit.specs.Doppler.{frequencyOf}
+use Rattle.approach.specs.Sums.{sampleOf}
 use Rattle.approach.proofs.Tables.{held-moment}
 use Rattle.approach.proofs.sums.sample.Statement.{statement}
 use Rattle.approach.proofs.sums.sample.Tie as tie

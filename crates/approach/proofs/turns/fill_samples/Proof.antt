@@ -6,13 +6,13 @@ use lib.Dec.{lit≤}
 use lib.ListN.{length}
 use Rattle.loops.proofs.Laws.{loops}
 use Rattle.moment.proofs.Samples.{within-more}
-use Rattle.approach.specs.Turns.{Written, moments}
+use Rattle.approach.specs.Turns.{Entered, moments}
 use Rattle.approach.proofs.Fill.{written-none, written-more}
 use Rattle.approach.proofs.turns.fill_samples.Statement.{statement}
 use Rattle.approach.proofs.turns.fill_samples.Tie as tie
 
 abbrev Inv-loop : tie.InvT-loop
-Inv-loop table₀ at times k₀ k-end table k = (k ≤ length times) × Written (moments times) at k table₀ table
+Inv-loop table₀ at times k₀ k-end table k = (k ≤ length times) × Entered (moments times) at k table₀ table
 
 abbrev μ-loop : tie.MeasureT-loop
 μ-loop table₀ at times k₀ k-end table k = length times - k

@@ -4,7 +4,7 @@ use Prim.Native.Nat.{ℕ, _+_, _-_, _≤_}
 use native.Mathlib.Omega.{arith}
 use Rattle.loops.proofs.Laws.{loops}
 use Rattle.moment.specs.declared.Instant.{Instant}
-use Rattle.approach.specs.Turns.{entries, Written}
+use Rattle.approach.specs.Turns.{entries, Entered}
 use Rattle.approach.proofs.Fill.{written-none, written-more}
 use Rattle.approach.proofs.turns.fill_window.Statement.{statement}
 use Rattle.approach.proofs.turns.fill_window.Tie as tie
@@ -13,7 +13,7 @@ abbrev from : ℕ → ℕ → ℕ → Instant
 from base nanos j = record { secs = base + j; nanos = nanos }
 
 abbrev Inv-loop : tie.InvT-loop
-Inv-loop table₀ at base nanos j₀ table j = (j ≤ entries) × Written (from base nanos) at j table₀ table
+Inv-loop table₀ at base nanos j₀ table j = (j ≤ entries) × Entered (from base nanos) at j table₀ table
 
 abbrev μ-loop : tie.MeasureT-loop
 μ-loop table₀ at base nanos j₀ table j = entries - j

@@ -2,7 +2,7 @@
 use mathlib.Core.Path.{sym, ap}
 use borrow.Author.Needs.{needs}
 use lib.Ieee.{ofBits, div}
-use Rattle.command.specs.Report.{frequencyOf}
+use Rattle.orbit.specs.Doppler.{frequencyOf}
 use Rattle.command.proofs.report.frequency.Statement.{statement}
 use Rattle.command.proofs.report.frequency.Tie as tie
 

@@ -7,7 +7,7 @@ use lib.Ieee.{ofBits, div}
 use lib.ListN.{length}
 use Rattle.loops.specs.Loop.{for}
 use Rattle.loops.proofs.Laws.{Left, begins, again, ends}
-use Rattle.command.specs.Report.{withPass, opening}
+use Rattle.command.specs.Report.{withPass, openWalk}
 use Rattle.command.proofs.Reports.{many-passes, few-centers, mean}
 use Rattle.command.proofs.report.rms.Statement.{statement}
 use Rattle.command.proofs.report.rms.Tie as tie
@@ -15,7 +15,7 @@ use Rattle.command.proofs.report.rms.Tie as tie
 abbrev Inv-loop : tie.InvT-loop
 Inv-loop counts times freqs centers dts dfs df1s df2s g w₀ p₀ p-end w p =
     (p ≤ length counts) × (length counts ≤ 16) × (w .at ≤ p * 4294967295) × (w .passes ≤ p)
-    × Left p (length counts) (withPass times freqs g counts dts dfs df1s df2s) w (for 0 (length counts) (withPass times freqs g counts dts dfs df1s df2s) opening)
+    × Left p (length counts) (withPass times freqs g counts dts dfs df1s df2s) w (for 0 (length counts) (withPass times freqs g counts dts dfs df1s df2s) openWalk)
 
 abbrev μ-loop : tie.MeasureT-loop
 μ-loop counts times freqs centers dts dfs df1s df2s g w₀ p₀ p-end w p = length counts - p

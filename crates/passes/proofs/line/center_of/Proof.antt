@@ -6,10 +6,10 @@ use Rattle.passes.proofs.line.center_of.Statement.{statement}
 use Rattle.passes.proofs.line.center_of.Tie as tie
 
 returns-2 : tie.Need-returns-2
-returns-2 c = sym (ap Spec.centerOf (c .before .v .given .1))
+returns-2 c = sym (ap Spec.centerLine (c .before .v .given .1))
 
 returns-3 : tie.Need-returns-3
-returns-3 c = sym (ap Spec.centerOf (c .enum-told2 .given .1))
+returns-3 c = sym (ap Spec.centerLine (c .enum-told2 .given .1))
 
 pub center-of-spec : {M : Type 1} → statement M
 center-of-spec =

@@ -1,13 +1,13 @@
 use borrow.Author.Needs.{needs}
 use Rattle.append.proofs.Appending.{both}
 use Rattle.moment.specs.Time.{million-bits, thousand-bits}
-use Rattle.report_text.specs.Fitted.{driftOf}
+use Rattle.report_text.specs.Fitted.{driftText}
 use Rattle.report_text.proofs.Pieces.{scaled}
 use Rattle.report_text.proofs.fitted.drift.Statement.{statement}
 use Rattle.report_text.proofs.fitted.drift.Tie as tie
 
 returns : tie.Need-returns
-unfolding driftOf
+unfolding driftText
 returns c =
     both (c .before .before .before .before .before .before .before .before .before .before .before .before .before .before .before .before .before .before .before .before .text .ensures) (both (scaled _ thousand-bits (c .before .before .before .before .before .before .before .before .before .before .before .before .before .before .before .before .real .ensures)) (both (c .before .before .before .before .before .before .before .before .before .before .before .text2 .ensures) (both (scaled _ million-bits (c .before .before .before .before .before .before .before .real2 .ensures)) (c .before .before .text3 .ensures))))
 

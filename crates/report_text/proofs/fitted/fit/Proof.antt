@@ -1,11 +1,11 @@
 use borrow.Author.Needs.{needs}
 use Rattle.append.proofs.Appending.{both}
-use Rattle.report_text.specs.Fitted.{fitOf}
+use Rattle.report_text.specs.Fitted.{fitText}
 use Rattle.report_text.proofs.fitted.fit.Statement.{statement}
 use Rattle.report_text.proofs.fitted.fit.Tie as tie
 
 returns : tie.Need-returns
-unfolding fitOf
+unfolding fitText
 returns c =
     both (c .before .before .before .before .before .before .counts .ensures) (c .before .before .sums .ensures)
 

@@ -1,11 +1,11 @@
 use borrow.Author.Needs.{needs}
 use Rattle.append.proofs.Appending.{both}
-use Rattle.report_text.specs.Number.{sizeOf}
+use Rattle.report_text.specs.Number.{sizeText}
 use Rattle.report_text.proofs.number.size.Statement.{statement}
 use Rattle.report_text.proofs.number.size.Tie as tie
 
 returns : tie.Need-returns
-unfolding sizeOf
+unfolding sizeText
 returns c =
     both (c .before .before .before .before .before .before .before .before .before .before .before .number .ensures) (both (c .before .before .before .before .before .before .text .ensures) (c .before .before .six .ensures))
 

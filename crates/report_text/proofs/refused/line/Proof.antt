@@ -1,17 +1,17 @@
 use borrow.Author.Needs.{needs}
 use Rattle.append.proofs.Appending.{both}
 use borrow.Author.Tests.{eq-eqb, ne-eqb}
-use Rattle.report_text.specs.Sentences.{lineOf}
+use Rattle.report_text.specs.Sentences.{lineText}
 use Rattle.report_text.proofs.refused.line.Statement.{statement}
 use Rattle.report_text.proofs.refused.line.Tie as tie
 
 returns : tie.Need-returns
-unfolding lineOf
+unfolding lineText
 returns c =
     rw (eq-eqb _ _ (c .before .before .before .before .if1 .taken)) (c .before .before .nothing .ensures)
 
 returns-2 : tie.Need-returns-2
-unfolding lineOf
+unfolding lineText
 returns-2 c =
     rw (ne-eqb _ _ (c .before .before .before .before .before .before .before .before .before .before .before .before .before .before .if1 .left)) (both (c .before .before .before .before .before .before .before .before .before .before .before .text .ensures) (both (c .before .before .before .before .before .before .before .number .ensures) (c .before .before .text2 .ensures)))
 

@@ -5,7 +5,7 @@ use Rattle.float.specs.Ops.{_⊕_}
 use Rattle.moment.specs.Origin.{march1956}
 use Rattle.moment.specs.Calendar.{dateOf, ordinalOf}
 use Rattle.moment.specs.declared.calendar.Date.{Date}
-use Rattle.tle.specs.Elements.{ofNat, dayFraction, epochAt}
+use Rattle.tle.specs.Elements.{ofNat, epochFraction, epochAt}
 use Rattle.tle.specs.declared.elements.Epoch.{Epoch}
 use Rattle.tle.proofs.Dates.{in-year}
 use borrow.Author.Needs.{needs}
@@ -15,7 +15,7 @@ use Rattle.tle.proofs.elements.epoch_of.Tie as tie
 ordinal-requires : tie.Need-ordinal-requires
 ordinal-requires c κs = in-year _ (c .date-of .result) (c .date-of .ensures)
 
-made : (secs nanos : ℕ) (d : Date) (o : ℕ) (f : Float) → let s = secs - march1956 in d ≡ dateOf (s / 86400) → o ≡ ordinalOf d → f ≡ dayFraction (s % 86400) nanos
+made : (secs nanos : ℕ) (d : Date) (o : ℕ) (f : Float) → let s = secs - march1956 in d ≡ dateOf (s / 86400) → o ≡ ordinalOf d → f ≡ epochFraction (s % 86400) nanos
     → _≡_ {A = Epoch} (record { year = d .year; day = ofNat o ⊕ f }) (epochAt secs nanos)
 unfolding epochAt
 made secs nanos d o f p q r = simp (r, q, p)
