@@ -17,6 +17,7 @@ use Rattle.moment.specs.declared.Given.the-variants.{At, Outside}
 use Rattle.moment.specs.Range.{givenOf}
 use Rattle.moment.specs.Sample.{timesInRange}
 use Rattle.moment.proofs.Ranges.{at-is, outside}
+use Rattle.moment.proofs.Samples.{both}
 use Rattle.moment.proofs.Samples.{timed}
 use Rattle.pass_set.specs.PassSet.{sizesAgree}
 use Rattle.pass_set.proofs.Laws as set
@@ -90,9 +91,6 @@ pub station-is : (epoch : Moment) (centre : Float) (p : Vec3) (i : Instant) → 
 station-is epoch centre p i g =
     let x = at-is (epoch .seconds) (epoch .nanos) i g in
     ap (λ (t : Instant). record { epoch = t; «center_freq» = centre; «rec_ecef» = p }) (both (x .secs-is) (x .nanos-is))
-  where
-    both : {a b c d : ℕ} → a ≡ b → c ≡ d → _≡_ {A = Instant} (record { secs = a; nanos = c }) (record { secs = b; nanos = d })
-    both p q = cc
 
 -- ---- answers
 

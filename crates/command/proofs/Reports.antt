@@ -3,9 +3,6 @@ use mathlib.Core.Path.{_≡_, refl, sym, ap, _∙_}
 use mathlib.Core.Bool.{Bool, true, false, cond}
 use mathlib.Core.List.{List}
 use Prim.Native.Nat.{ℕ, zero, suc, _+_, _≤_, _<_}
-use native.Mathlib.Omega.{arith}
-use mir.Syntax.{w32}
-use mir.Val.{Fits}
 use lib.IntN.{ℤ, pos}
 use lib.Ieee.{Float, nan, binary64, ofInt}
 use lib.ListN.{length, getD, take}
@@ -50,9 +47,6 @@ walks times freqs g b (suc n) w h e s =
 
 pub walks-none : (times : List ℤ) (freqs : List Float) (g : Fitted) (b : Biases) (n : ℕ) (w : Walk) → n ≡ 0 → w ≡ walkPass times freqs g b n w
 walks-none times freqs g b n w h = sym (ap (λ (m : ℕ). walkPass times freqs g b m w) h)
-
-pub wider : (a n : ℕ) → Fits w32 n → a + n ≤ a + 4294967295
-wider a n h = omega (arith, h .fits)
 
 -- ---- the mean
 

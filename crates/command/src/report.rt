@@ -42,15 +42,6 @@ pub struct Walk {
     pub passes: usize,
 }
 
-fn number_at(l: &[f64], k: usize) -> f64
-    ensures { λ r. ⌜ r ≡ getD (now (l .entry)) k nan ⌝ }
-{
-    if k < l.len() {
-        return l[k];
-    }
-    0.0 / 0.0
-}
-
 // A sample's moment; of a time out of range, one that no prediction takes.
 fn moment_in(t: i64) -> Moment
     ensures { λ r. ⌜ r ≡ momentIn t ⌝ }
@@ -115,7 +106,7 @@ fn residual(g: Fitted, b: Pass, m: Moment, f: f64) -> f64
 fn square(times: &[i64], freqs: &[f64], g: Fitted, b: Pass, k: usize, sum: f64) -> f64
     ensures { λ r. ⌜ r ≡ squareOf (now (times .entry)) (now (freqs .entry)) g b k sum ⌝ }
 {
-    let r = residual(g, b, moment_at(times, k), number_at(freqs, k));
+    let r = residual(g, b, moment_at(times, k), noise::number_at(freqs, k));
     sum + r * r
 }
 
@@ -135,10 +126,10 @@ fn biases_at(dts: &[f64], dfs: &[f64], df1s: &[f64], df2s: &[f64], q: usize) -> 
 {
     Biases {
         sampled: true,
-        dt: number_at(dts, q),
-        df: number_at(dfs, q),
-        df1: number_at(df1s, q),
-        df2: number_at(df2s, q),
+        dt: noise::number_at(dts, q),
+        df: noise::number_at(dfs, q),
+        df1: noise::number_at(df1s, q),
+        df2: noise::number_at(df2s, q),
     }
 }
 

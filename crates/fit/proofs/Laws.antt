@@ -17,11 +17,6 @@ use Rattle.trials.proofs.Laws.{more}
 use Rattle.fit.specs.Answer.{largestOffset, biases, anyLarge, orbitOf, Outputs, outputs, over}
 use Rattle.fit.specs.Work.{Puts}
 
--- ---- the first places
-
-pub prefix : (n : ℕ) (l : List ℕ) → n ≤ length l → n ≡ length (take n l)
-prefix n l h = sym (length-take-le n l h)
-
 -- ---- biases
 
 pub length-biases : (k : ℕ) (x : List Float) (n : ℕ) → length (biases k x n) ≡ n

@@ -8,7 +8,7 @@ use borrow.Author.Tests.{not-true, not-false}
 use Rattle.float.specs.Ops.{bits}
 use Rattle.arguments.proofs.Laws.{accepted}
 use Rattle.fit.specs.Answer.{arguments, outputs}
-use Rattle.fit.proofs.Laws.{prefix}
+use Rattle.laws.proofs.Lists.{prefix}
 use Rattle.fit.proofs.Answers.{fits-input, fits-room, fits-worked, fits-found, solves-all, room-said, few-passes, in-sixteen, passes-all, given-all, holds}
 use Rattle.fit.proofs.fit_orbit_doppler.Statement.{statement}
 use Rattle.fit.proofs.fit_orbit_doppler.Tie as tie

@@ -4,7 +4,7 @@ use native.Mathlib.Omega.{arith}
 use lib.Seq.{length-take-le}
 use borrow.Author.Needs.{needs}
 use Rattle.fit.specs.Fit.{observed}
-use Rattle.fit.proofs.Laws.{prefix}
+use Rattle.laws.proofs.Lists.{prefix}
 use Rattle.fit.proofs.Steps.{two-start, two-fits, gives-two, first-ends}
 use Rattle.fit.proofs.refine_first.Statement.{statement}
 use Rattle.fit.proofs.refine_first.Tie as tie

@@ -2,7 +2,7 @@
 use native.Mathlib.Omega.{arith}
 use borrow.Author.Needs.{needs}
 use Rattle.fit.specs.Fit.{observed}
-use Rattle.fit.proofs.Laws.{prefix}
+use Rattle.laws.proofs.Lists.{prefix}
 use Rattle.fit.proofs.Steps.{moments-length, moments-dated, asks, runs-refined}
 use Rattle.fit.proofs.refine_passes.Statement.{statement}
 use Rattle.fit.proofs.refine_passes.Tie as tie

@@ -1,6 +1,7 @@
 -- `walk_pass` meets its contract. Assumes nothing.
 use borrow.Author.Needs.{needs}
-use Rattle.command.proofs.Reports.{walks, walks-none, wider}
+use Rattle.laws.proofs.Numbers.{wider}
+use Rattle.command.proofs.Reports.{walks, walks-none}
 use Rattle.command.proofs.report.walk_pass.Statement.{statement}
 use Rattle.command.proofs.report.walk_pass.Tie as tie
 
