@@ -3,12 +3,14 @@
 -- set's residuals (none is refusal 23), `step` what table and step make of this damping and set; `enough` says that there are as
 -- many residuals as parameters.
 use mathlib.Core.Path.{_≡_, refl}
-use mathlib.Core.Bool.{Bool, cond}
+use mathlib.Core.Bool.{Bool, false, cond}
 use mathlib.Core.List.{List, [], _∷_, _++_}
 use mathlib.Core.Option.{Option, none, some}
 use Prim.Native.Nat.{ℕ, zero, suc, _+_}
+use lib.Dec.{eqb}
 use lib.Ieee.{Float, lt, ofBits, round}
 use Rattle.refusal.specs.Numbers as refusal
+use Rattle.refusal.specs.Order.{first, _if_}
 use Rattle.float.specs.Constant.{decimal}
 use Rattle.float.specs.Ops.{_⊗_, _⊘_, one, bits, largest}
 use Rattle.normal.specs.Step.{Outcome, next, short, refused}
@@ -96,6 +98,19 @@ whileRunning (Refused k) t b = b
 whileRunning Short t b = b
 whileRunning Damped t b = b
 whileRunning Converged t b = b
+
+-- ---- what an ending gives a fit
+
+-- whether a refinement ended by 23; the solver's 22 ends one and refuses no fit
+abbrev pub farEnding : Ending → Bool
+farEnding Running = false
+farEnding (Refused k) = eqb k refusal.far-moment
+farEnding Short = false
+farEnding Damped = false
+farEnding Converged = false
+
+abbrev pub farRefusal : Ending → ℕ
+farRefusal ended = first ((refusal.far-moment if farEnding ended) ∷ [])
 
 -- ---- the book
 

@@ -18,7 +18,7 @@ use Rattle.moment.proofs.Samples.{moment-instant}
 use Rattle.residuals.specs.Residuals.{at, penalisedSum}
 use Rattle.orbit.specs.Doppler.{stationAt}
 use Rattle.orbit.specs.declared.doppler.Station.{Station}
-use Rattle.book.specs.Book.{Book}
+use Rattle.book.specs.Book.{Book, farEnding}
 use Rattle.book.specs.Demand.{largestSum, All, Tried}
 use Rattle.book.proofs.Demand.{tried}
 use Rattle.refine.specs.Advance.{advanceOf}
@@ -32,7 +32,6 @@ use Rattle.fit.specs.Answer.{
   passCount,
   firstBookOf,
   bookOf,
-  farEnding,
   biases,
   anyLarge,
   workRefusals,

@@ -10,7 +10,6 @@ use lib.IntN.{ℤ}
 use lib.ListN.{length, getD, take}
 use lib.Seq.{length-take-le}
 use lib.Ieee.{Float}
-use borrow.Author.Tests.{ne-eqb}
 use Rattle.refusal.specs.Numbers as refusal
 use Rattle.refusal.specs.Order.{first}
 use Rattle.moment.specs.Sample.{Timed}
@@ -26,9 +25,8 @@ use Rattle.residuals.specs.Samples.{passesOf, countsAt, DatedTimes, Rotations}
 use Rattle.residuals.specs.Residuals.{rowsOf, placeOf, elementsOf, penalisedSum}
 use Rattle.residuals.proofs.Samples.{counts-length, counts-dated}
 use Rattle.refine.specs.Advance.{advanceOf}
-use Rattle.book.specs.Book.{Search, book}
+use Rattle.book.specs.Book.{Search, book, farEnding, farRefusal}
 use Rattle.book.specs.declared.Ending.{Ending}
-use Rattle.book.specs.declared.Ending.the-variants.{Refused}
 use Rattle.trials.specs.Trials as trials
 use Rattle.trials.specs.Trials.{RunsTo, Runs, TrialsAsk}
 use Rattle.trials.specs.declared.Trials.{Trials}
@@ -37,7 +35,7 @@ use Rattle.start.specs.Start.{startingSet}
 use Rattle.start.proofs.Given.{first-passes}
 use Rattle.arguments.specs.Refusals.{scratchSize}
 use Rattle.fit.specs.Fit.{Observations, observed, firstTwo, bestStart, startElements, refined, refinedTwo, firstBook, trialBook}
-use Rattle.fit.specs.Answer.{farEnding, farRefusal, searchRefusals}
+use Rattle.fit.specs.Answer.{searchRefusals}
 use Rattle.fit.specs.Work.{Refines, RoomForTwo, Given, Ends, WorkDone}
 
 -- ---- the start
@@ -160,9 +158,6 @@ unfolding trialBook
 second-runs x a i old log k t e r = rw e at r
 
 -- ---- the refusal that an ending gives
-
-pub not-carried : (e : Ending) (k : ℕ) → e ≡ Refused k → (k ≡ refusal.far-moment → ⊥) → 0 ≡ farRefusal e
-not-carried e k is h = rw (is, ne-eqb k refusal.far-moment h)
 
 module _ (r : ℕ) (e : Ending) (is : r ≡ farRefusal e) where
   by-test : (b : Bool) → r ≡ cond b refusal.far-moment 0 → (r ≡ 0 → ⊥) → (r ≡ refusal.far-moment) × (b ≡ true)

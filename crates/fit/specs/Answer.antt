@@ -3,7 +3,6 @@ use mathlib.Core.Path.{_≡_, refl}
 use mathlib.Core.Bool.{Bool, false, not, _||_}
 use mathlib.Core.List.{List, [], _∷_, _++_}
 use Prim.Native.Nat.{ℕ, zero, suc, _+_, _*_}
-use lib.Dec.{eqb}
 use lib.IntN.{ℤ, pos}
 use lib.ListN.{length, getD, drop, replicate}
 use lib.Ieee.{Float, lt, ofBits, round}
@@ -15,10 +14,9 @@ use Rattle.moment.specs.Sample.{momentAt}
 use Rattle.frame.specs.declared.Vec3.{Vec3}
 use Rattle.solution.specs.declared.SolvedOrbit.{SolvedOrbit}
 use Rattle.residuals.specs.Residuals.{at}
-use Rattle.book.specs.Book.{Search, Book}
+use Rattle.book.specs.Book.{Search, Book, farEnding}
 use Rattle.book.specs.Demand.{largestSum}
 use Rattle.book.specs.declared.Ending.{Ending}
-use Rattle.book.specs.declared.Ending.the-variants.{Running, Refused, Short, Damped, Converged}
 use Rattle.arguments.specs.Passes.{nonEmpty, centerOf}
 use Rattle.arguments.specs.Refusals as given
 use Rattle.arguments.specs.Refusals.{Room, inputRefusals, enough}
@@ -55,17 +53,6 @@ abbrev pub bookOf : Arguments → Book
 bookOf x = trialBook (radius (observations x)) (x .i) (observations x)
 
 -- ---- refusals
-
--- whether a refinement ended by 23; the solver's 22 ends one and refuses no fit
-abbrev pub farEnding : Ending → Bool
-farEnding Running = false
-farEnding (Refused k) = eqb k refusal.far-moment
-farEnding Short = false
-farEnding Damped = false
-farEnding Converged = false
-
-abbrev pub farRefusal : Ending → ℕ
-farRefusal ended = first ((refusal.far-moment if farEnding ended) ∷ [])
 
 -- 500 kHz
 unfoldable pub largestOffset : Float

@@ -11,10 +11,9 @@ ghost use Rattle.float.specs.Ops.{absOf};
 ghost use Rattle.moment.specs.Sample.{Timed};
 ghost use Rattle.trials.specs.Trials.{stateSearch, RunsTo};
 ghost use Rattle.fit.specs.Fit.{observed, startElements, refined, refinedTwo, firstBook};
-ghost use Rattle.fit.specs.Answer.{arguments, farRefusal, largestOffset, biases, anyLarge, searchRefusals, orbitOf, refusedBy, outputs, Fits};
+ghost use Rattle.fit.specs.Answer.{arguments, largestOffset, biases, anyLarge, searchRefusals, orbitOf, refusedBy, outputs, Fits};
 ghost use Rattle.fit.specs.Work.{Refines, RoomForTwo, Given, Ends, WorkDone, OutputsRoom, Puts};
 use arguments::MAX_TRIALS;
-use book::Ending;
 use frame::Vec3;
 use moment::Moment;
 use orbit::Elements;
@@ -142,24 +141,6 @@ fn refine_first(
     refine_two(a, &counts[..2], &times[..n], &freqs[..n], g, i, scratch)
 }
 
-// The refusal that a refinement's ending gives the fit, or 0: 23 is carried on, while the solver's 22 ended the refinement and no more.
-fn far_refusal(e: Ending) -> u32
-    ensures { λ r. ⌜ r ≡ farRefusal e ⌝ }
-{
-    match e {
-        Ending::Running => 0,
-        Ending::Refused(number) => {
-            if number == refusal::FAR_MOMENT {
-                return number;
-            }
-            0
-        }
-        Ending::Short => 0,
-        Ending::Damped => 0,
-        Ending::Converged => 0,
-    }
-}
-
 // Whether it was so already, or this df0 is too large.
 fn or_large(large: bool, df: f64) -> bool
     ensures { λ r. ⌜ r ≡ (large || lt largestOffset (absOf df)) ⌝ }
@@ -189,7 +170,7 @@ fn state_refusal(s: State, passes: usize) -> u32
     ensures { λ r. ⌜ r ≡ first (searchRefusals (s .ended) (stateSearch s) passes) ⌝ }
 {
     let e = s.ended;
-    let far = far_refusal(e);
+    let far = trials::far_refusal(e);
     if far != 0 {
         return far;
     }
@@ -221,7 +202,7 @@ fn refine_both(
     let ended = s.ended;
     let refined = s.best_params;
     let e = residuals::elements_of(refined);
-    let far = far_refusal(ended);
+    let far = trials::far_refusal(ended);
     if far != 0 {
         return Solved {
             refusal: far,

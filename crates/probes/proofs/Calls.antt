@@ -11,7 +11,7 @@ use lib.IntN.{ℤ, pos}
 use lib.ListN.{length, getD, take, drop, replicate}
 use lib.Seq.{take-all, take-at, length-take-le}
 use lib.Ieee.{Float}
-use borrow.Author.Tests.{ltb-false, ne-eqb}
+use borrow.Author.Tests.{ltb-false}
 use Rattle.refusal.specs.Numbers.{moment-range, sizes, short-memory}
 use Rattle.refusal.specs.Order.{_if_, first}
 use Rattle.moment.specs.Sample.{timesInRange, Timed, instantAt}
@@ -32,7 +32,7 @@ use Rattle.residuals.specs.declared.Sum.the-variants.{Value, Refused}
 use Rattle.residuals.proofs.Samples.{counts-length, counts-dated}
 use Rattle.normal.specs.Step.{Outcome}
 use Rattle.refine.specs.Advance.{advanceOf}
-use Rattle.book.specs.Book.{Search, After, Book, compared, arrival, onward, noted, trial, following, turn, whileRunning}
+use Rattle.book.specs.Book.{Search, After, Book, compared, arrival, onward, noted, trial, following, turn, whileRunning, farRefusal}
 use Rattle.book.specs.declared.Ending.{Ending}
 use Rattle.book.specs.declared.Ending.the-variants.{Running, Refused as RefusedEnd, Short, Damped, Converged}
 use Rattle.refine.proofs.Advances.{places-few, rows-fit}
@@ -41,7 +41,7 @@ use Rattle.trials.specs.Trials as trials
 use Rattle.trials.specs.declared.State.{State}
 use Rattle.trials.specs.declared.Tried as trials-tried
 use Rattle.trials.proofs.Laws.{kept-set}
-use Rattle.probes.specs.Call.{probeRefusal, cleared, firstEpoch, Searches, SetAccepted, Prepared, Sums, bookWith, bookAfter, enoughOf, trialOf, isRunning, trialRefusal, zeroState, endingRefusal, stateUnless, TrialCall}
+use Rattle.probes.specs.Call.{probeRefusal, cleared, firstEpoch, Searches, SetAccepted, Prepared, Sums, bookWith, bookAfter, enoughOf, trialOf, isRunning, trialRefusal, zeroState, stateUnless, TrialCall}
 use Rattle.probes.specs.declared.Tried.{Tried}
 
 -- ---- no refusal before the work
@@ -251,9 +251,6 @@ module _ (second : Bool) (g : Station) (d : Passes) (s : Search) (t : State) (a 
   unfolding trialOf
   trial-followed u p q e f n h = gone-on (penalisedSum second g d) (advanceOf second g d) (enoughOf second d) s t u a n (rw (e, f) at h)
 
-pub not-far-ended : (e : Ending) (k : ℕ) → e ≡ RefusedEnd k → (k ≡ 23 → ⊥) → 0 ≡ endingRefusal e
-not-far-ended e k h n = rw (h, ne-eqb k 23 n)
-
 far-zeros : (n : ℕ) (a : After) → (n ≡ 0 → ⊥) → zeroState ≡ stateUnless n a
 far-zeros zero a h = absurd (h refl)
 far-zeros (suc n) a h = refl
@@ -266,7 +263,7 @@ pub tries-refused : (n : ℕ) (a : After) (scratch : List Float) (r : Tried) →
 tries-refused zero a scratch r h e = absurd (h refl)
 tries-refused (suc n) a scratch r h e = record { answer = e .0; state = e .1; zeros = refl }
 
-module _ (n : ℕ) (a : After) (scratch out : List Float) (m : ℕ) (early : n ≡ 0) (l : m ≡ length scratch) (z : out ≡ replicate m (bits 0)) (k : ℕ) (q : k ≡ endingRefusal (a .ended)) where
+module _ (n : ℕ) (a : After) (scratch out : List Float) (m : ℕ) (early : n ≡ 0) (l : m ≡ length scratch) (z : out ≡ replicate m (bits 0)) (k : ℕ) (q : k ≡ farRefusal (a .ended)) where
   whole : trialRefusal n a ≡ k
   whole = rw (early, q) refl
 

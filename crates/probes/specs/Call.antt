@@ -1,11 +1,11 @@
 -- What the search over all starts, the residuals and a single trial give as calls of their own, and what they leave in lent memory.
 -- They serve the comparison with the original, and take any input: a set without samples is one whose sums have no terms.
 use mathlib.Core.Path.{_≡_}
-use mathlib.Core.Bool.{Bool, true, false, not, cond}
+use mathlib.Core.Bool.{Bool, true, false, not}
 use mathlib.Core.List.{List, [], _∷_, _++_}
 use mathlib.Core.Option.{Option, none, some}
 use Prim.Native.Nat.{ℕ, zero, suc, _≤_}
-use lib.Dec.{leb, ltb, eqb}
+use lib.Dec.{leb, ltb}
 use lib.IntN.{ℤ, pos}
 use lib.ListN.{length, getD, drop, replicate}
 use lib.Ieee.{Float}
@@ -22,7 +22,7 @@ use Rattle.search.specs.declared.Found.{Found}
 use Rattle.residuals.specs.Samples.{Passes, countsAt, passesOf, Rotations}
 use Rattle.residuals.specs.Residuals.{placeOf, rowsOf, penalisedSum, sumOf}
 use Rattle.refine.specs.Advance.{advanceOf}
-use Rattle.book.specs.Book.{Search, After, Book, turn}
+use Rattle.book.specs.Book.{Search, After, Book, turn, farRefusal}
 use Rattle.book.specs.declared.Ending.{Ending}
 use Rattle.book.specs.declared.Ending.the-variants.{Running, Refused, Short, Damped, Converged}
 use Rattle.trials.specs.Trials.{stateAfter}
@@ -121,15 +121,8 @@ isRunning Damped = false
 isRunning Converged = false
 
 -- 23 where a moment was too far; every other ending, the solver's 22 among them, is an answer
-abbrev pub endingRefusal : Ending → ℕ
-endingRefusal Running = 0
-endingRefusal (Refused k) = cond (eqb k far-moment) far-moment 0
-endingRefusal Short = 0
-endingRefusal Damped = 0
-endingRefusal Converged = 0
-
 abbrev pub trialRefusal : ℕ → After → ℕ
-trialRefusal zero a = endingRefusal (a .ended)
+trialRefusal zero a = farRefusal (a .ended)
 trialRefusal (suc k) a = suc k
 
 -- after a refusal a state of zeros

@@ -26,7 +26,6 @@ ghost use Rattle.probes.specs.Call.{
   Sums,
   trialOf,
   isRunning,
-  endingRefusal,
   zeroState,
   TrialCall,
   SetAccepted,
@@ -37,7 +36,10 @@ use book::Ending;
 use frame::Vec3;
 use moment::Instant;
 use orbit::doppler::Station;
+use pass_set::MAX_SAMPLES;
 use residuals::PARAMS;
+use residuals::Point;
+use residuals::ROWS;
 use residuals::Sum;
 use search::Fixed;
 use trials::Refinement;
@@ -45,8 +47,6 @@ use trials::State;
 
 // The room of any set's table of rotations, of its residuals, and of a table of their derivatives.
 pub const ROTATIONS: usize = 48032;
-
-pub const ROWS: usize = 4144;
 
 pub const TABLE: usize = 281792;
 
@@ -192,21 +192,19 @@ fn prepare(times: &[i64], counted: &mut [u64], turns: &mut [f64])
 
 // The sum of a set whose samples are prepared. The residuals are kept apart until all are there, since refusal 23 writes none.
 fn sum_of(
-    second: bool,
+    set: Point,
     counts: &[u32],
     times: &[u64],
     freqs: &[f64],
     turns: &[f64],
-    g: Station,
-    params: [f64; PARAMS],
     out: &mut [f64],
 ) -> Residuals
-    requires { ⌜ SetAccepted (now counts) (length (now times)) (length (now freqs)) × Sound (g .epoch .secs) (g .epoch .nanos) × Rotations (now times) (now turns) × (4144 ≤ length (now out)) ⌝ }
-    ensures { λ r. ⌜ Sums 0 (residuals second g (passesOf (now (counts .entry)) (now (times .entry)) (now (freqs .entry))) params) (now (out .entry)) (now (out .exit)) r ⌝ }
+    requires { ⌜ SetAccepted (now counts) (length (now times)) (length (now freqs)) × Sound (set .station .epoch .secs) (set .station .epoch .nanos) × Rotations (now times) (now turns) × (4144 ≤ length (now out)) ⌝ }
+    ensures { λ r. ⌜ Sums 0 (residuals (set .second) (set .station) (passesOf (now (counts .entry)) (now (times .entry)) (now (freqs .entry))) (set .params)) (now (out .entry)) (now (out .exit)) r ⌝ }
 {
-    let rows = residuals::rows_of(second, times.len(), counts.len());
+    let rows = residuals::rows_of(set.second, times.len(), counts.len());
     let mut r = [0.0; ROWS];
-    let answer = residuals::penalised_sum(second, counts, times, freqs, turns, g, params, &mut r);
+    let answer = residuals::penalised_sum(set, counts, times, freqs, turns, &mut r);
     match answer {
         Sum::Value(sum) => {
             trials::put(&r[..rows], out);
@@ -218,22 +216,20 @@ fn sum_of(
 
 // The same, with room for the samples' counts and rotations.
 fn sum_in(
-    second: bool,
+    set: Point,
     counts: &[u32],
     times: &[i64],
     freqs: &[f64],
-    g: Station,
-    params: [f64; PARAMS],
     room: &mut [u64],
     turns: &mut [f64],
     out: &mut [f64],
 ) -> Residuals
-    requires { ⌜ Lent (now counts) (now times) (length (now freqs)) (length (now room)) (length (now turns)) × Sound (g .epoch .secs) (g .epoch .nanos) × (4144 ≤ length (now out)) ⌝ }
-    ensures { λ r. ⌜ Sums 0 (residuals second g (samplesOf (now (counts .entry)) (now (times .entry)) (now (freqs .entry))) params) (now (out .entry)) (now (out .exit)) r ⌝ }
+    requires { ⌜ Lent (now counts) (now times) (length (now freqs)) (length (now room)) (length (now turns)) × Sound (set .station .epoch .secs) (set .station .epoch .nanos) × (4144 ≤ length (now out)) ⌝ }
+    ensures { λ r. ⌜ Sums 0 (residuals (set .second) (set .station) (samplesOf (now (counts .entry)) (now (times .entry)) (now (freqs .entry))) (set .params)) (now (out .entry)) (now (out .exit)) r ⌝ }
 {
     let n = times.len();
     prepare(times, &mut room[..n], turns);
-    sum_of(second, counts, &room[..n], freqs, turns, g, params, out)
+    sum_of(set, counts, &room[..n], freqs, turns, out)
 }
 
 // The penalised sum of a set of parameters; its residuals go to the first places of out, which has 4,144 or more.
@@ -255,20 +251,15 @@ pub fn residuals_of(
     if refusal != 0 {
         return Residuals { refusal, sum: 0.0 };
     }
-    let g = station(times, center_freq, rec_ecef);
-    let mut room = [0u64; SAMPLES];
-    let mut turns = [0.0; TURNS];
-    sum_in(
+    let station = station(times, center_freq, rec_ecef);
+    let set = Point {
         second,
-        counts,
-        times,
-        freqs,
-        g,
+        station,
         params,
-        &mut room,
-        &mut turns,
-        out,
-    )
+    };
+    let mut room = [0u64; MAX_SAMPLES];
+    let mut turns = [0.0; TURNS];
+    sum_in(set, counts, times, freqs, &mut room, &mut turns, out)
 }
 
 // ---- a trial
@@ -301,18 +292,18 @@ fn turned(
 {
     let enough = residuals::place_of(second, counts.len())
         <= residuals::rows_of(second, times.len(), counts.len());
-    let mut r = [0.0; ROWS];
-    let t = trials::trial(second, counts, times, freqs, turns, g, s, &mut r);
-    let after = t.state;
-    let e = after.ended;
-    if !running(e) {
-        return after;
-    }
     let w = Refinement {
         second,
         enough,
         station: g,
     };
+    let mut r = [0.0; ROWS];
+    let t = trials::trial(w, counts, times, freqs, turns, s, &mut r);
+    let after = t.state;
+    let e = after.ended;
+    if !running(e) {
+        return after;
+    }
     let f = trials::follow(w, counts, times, freqs, turns, t, &mut r, scratch);
     f.state
 }
@@ -335,24 +326,6 @@ fn turned_in(
     let n = times.len();
     prepare(times, &mut room[..n], turns);
     turned(second, counts, &room[..n], freqs, turns, g, s, scratch)
-}
-
-fn ending_refusal(e: Ending) -> u32
-    ensures { λ r. ⌜ r ≡ endingRefusal e ⌝ }
-{
-    match e {
-        Ending::Refused(number) => {
-            if number == refusal::FAR_MOMENT {
-                refusal::FAR_MOMENT
-            } else {
-                0
-            }
-        }
-        Ending::Running => 0,
-        Ending::Short => 0,
-        Ending::Damped => 0,
-        Ending::Converged => 0,
-    }
 }
 
 // A refusal's number, and a state of zeros.
@@ -393,7 +366,7 @@ pub fn trial(
         return refused(early);
     }
     let g = station(times, center_freq, rec_ecef);
-    let mut room = [0u64; SAMPLES];
+    let mut room = [0u64; MAX_SAMPLES];
     let mut turns = [0.0; TURNS];
     let state = turned_in(
         second,
@@ -408,7 +381,7 @@ pub fn trial(
     );
     linear::clear(scratch);
     let e = state.ended;
-    let far = ending_refusal(e);
+    let far = trials::far_refusal(e);
     if far != 0 {
         return refused(far);
     }

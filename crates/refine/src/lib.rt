@@ -13,16 +13,9 @@ ghost use Rattle.refine.specs.Jacobian.{biasEps, epsOf, perturbedOf, put
 ghost use Rattle.refine.specs.Advance.{advanceOf, cellsOf, Ready, Advances};
 use normal::Step;
 use normal::Stepped;
-use orbit::doppler::Station;
 use residuals::PARAMS;
+use residuals::Point;
 use residuals::ROWS;
-
-// A set of parameters of either refinement, and what its predictions share.
-pub struct Point {
-    pub second: bool,
-    pub station: Station,
-    pub params: [f64; PARAMS],
-}
 
 fn bias_eps(j: usize) -> f64
     ensures { λ r. ⌜ r ≡ biasEps j ⌝ }
@@ -96,12 +89,17 @@ fn jacobian_column(
         (p .params) (now (r .entry)) (length (now (r .entry))) n k (now (table .entry))) ⌝ }
 {
     let second = p.second;
-    let g = p.station;
+    let station = p.station;
     let x = p.params;
     let eps = param_eps(second, k);
-    let y = perturbed(x, k, eps);
+    let params = perturbed(x, k, eps);
+    let moved = Point {
+        second,
+        station,
+        params,
+    };
     let mut column = [0.0; ROWS];
-    let refusal = residuals::residuals_into(second, counts, times, freqs, turns, g, y, &mut column);
+    let refusal = residuals::residuals_into(moved, counts, times, freqs, turns, &mut column);
     if refusal != 0 {
         return refusal;
     }

@@ -10,10 +10,10 @@ pub(crate) fn stored_set() -> [u8; 16384]
 }
 
 // The residuals of a set, with penalties.
-pub(crate) fn residuals() -> [f64; probes::ROWS]
+pub(crate) fn residuals() -> [f64; residuals::ROWS]
     ensures { λ r. ⌜ 4144 ≡ length r ⌝ }
 {
-    [0.0; probes::ROWS]
+    [0.0; residuals::ROWS]
 }
 
 // The table of a refinement.

@@ -44,6 +44,13 @@ pub const PARAMS: usize = 68;
 // Residuals of 4,096 samples in 16 passes, with their penalties.
 pub const ROWS: usize = 4144;
 
+// A set of parameters of either refinement, and what its predictions share.
+pub struct Point {
+    pub second: bool,
+    pub station: Station,
+    pub params: [f64; PARAMS],
+}
+
 // A pass's frequency bias: df, or df0 with its first two derivatives.
 pub enum Bias {
     Constant(f64),
@@ -210,21 +217,21 @@ fn predict_sample(
 
 // Writes the residuals of all samples, pass by pass, and gives 0; or gives refusal 23 at the first moment that is too far.
 fn sample_residuals(
-    second: bool,
+    set: Point,
     counts: &[u32],
     times: &[u64],
     freqs: &[f64],
     turns: &[f64],
-    g: Station,
-    x: [f64; PARAMS],
     out: &mut [f64],
 ) -> u32
-    requires { ⌜ Samples g (passesOf (now counts) (now times) (now freqs)) (now turns) × (length (now times) ≤ length (now out)) ⌝ }
+    requires { ⌜ Samples (set .station) (passesOf (now counts) (now times) (now freqs)) (now turns) × (length (now times) ≤ length (now out)) ⌝ }
     ensures { λ r. ⌜ Filled r (take (length (now (times .entry))) (now (out .exit)))
-        (passes (residual second g (passesOf (now (counts .entry)) (now (times .entry)) (now (freqs .entry))) x) 0 0 (now (counts .entry))) ⌝ }
+        (passes (residual (set .second) (set .station) (passesOf (now (counts .entry)) (now (times .entry)) (now (freqs .entry))) (set .params)) 0 0 (now (counts .entry))) ⌝ }
 {
+    let second = set.second;
+    let x = set.params;
     let e = elements_of(x);
-    let sight = orbit::doppler::sight_of(g, e);
+    let sight = orbit::doppler::sight_of(set.station, e);
     let mut refusal = 0u32;
     let mut k = 0usize;
     let mut p = 0usize;
@@ -241,7 +248,7 @@ fn sample_residuals(
                     break 'passes;
                 }
                 Prediction::Frequency(v) => {
-                    out[k] = freqs[k] - (g.center_freq + v);
+                    out[k] = freqs[k] - (set.station.center_freq + v);
                 }
             }
             k += 1;
@@ -291,22 +298,22 @@ pub fn rows_of(second: bool, samples: usize, passes: usize) -> usize
     }
 }
 
-// Writes the residuals of the set x to the first places of out and gives 0, or gives refusal 23.
+// Writes the residuals of a set to the first places of out and gives 0, or gives refusal 23.
 pub fn residuals_into(
-    second: bool,
+    set: Point,
     counts: &[u32],
     times: &[u64],
     freqs: &[f64],
     turns: &[f64],
-    g: Station,
-    x: [f64; PARAMS],
     out: &mut [f64],
 ) -> u32
-    requires { ⌜ Samples g (passesOf (now counts) (now times) (now freqs)) (now turns) × (length (now times) + 3 * length (now counts) ≤ length (now out)) ⌝ }
-    ensures { λ r. ⌜ Filled r (take (rowsOf second (length (now (times .entry))) (length (now (counts .entry)))) (now (out .exit)))
-        (residuals second g (passesOf (now (counts .entry)) (now (times .entry)) (now (freqs .entry))) x) ⌝ }
+    requires { ⌜ Samples (set .station) (passesOf (now counts) (now times) (now freqs)) (now turns) × (length (now times) + 3 * length (now counts) ≤ length (now out)) ⌝ }
+    ensures { λ r. ⌜ Filled r (take (rowsOf (set .second) (length (now (times .entry))) (length (now (counts .entry)))) (now (out .exit)))
+        (residuals (set .second) (set .station) (passesOf (now (counts .entry)) (now (times .entry)) (now (freqs .entry))) (set .params)) ⌝ }
 {
-    let refusal = sample_residuals(second, counts, times, freqs, turns, g, x, out);
+    let second = set.second;
+    let x = set.params;
+    let refusal = sample_residuals(set, counts, times, freqs, turns, out);
     if refusal != 0 {
         return refusal;
     }
@@ -334,23 +341,21 @@ fn sum_squares(r: &[f64], n: usize) -> f64
 
 // What a trial compares, with the residuals left in the first places of out.
 pub fn penalised_sum(
-    second: bool,
+    set: Point,
     counts: &[u32],
     times: &[u64],
     freqs: &[f64],
     turns: &[f64],
-    g: Station,
-    x: [f64; PARAMS],
     out: &mut [f64],
 ) -> Sum
-    requires { ⌜ Samples g (passesOf (now counts) (now times) (now freqs)) (now turns) × (length (now times) + 3 * length (now counts) ≤ length (now out)) ⌝ }
-    ensures { λ r. ⌜ Summed (take (rowsOf second (length (now (times .entry))) (length (now (counts .entry)))) (now (out .exit)))
-        (residuals second g (passesOf (now (counts .entry)) (now (times .entry)) (now (freqs .entry))) x) r ⌝ }
+    requires { ⌜ Samples (set .station) (passesOf (now counts) (now times) (now freqs)) (now turns) × (length (now times) + 3 * length (now counts) ≤ length (now out)) ⌝ }
+    ensures { λ r. ⌜ Summed (take (rowsOf (set .second) (length (now (times .entry))) (length (now (counts .entry)))) (now (out .exit)))
+        (residuals (set .second) (set .station) (passesOf (now (counts .entry)) (now (times .entry)) (now (freqs .entry))) (set .params)) r ⌝ }
 {
-    let refusal = residuals_into(second, counts, times, freqs, turns, g, x, out);
+    let refusal = residuals_into(set, counts, times, freqs, turns, out);
     if refusal != 0 {
         return Sum::Refused(refusal);
     }
-    let rows = rows_of(second, times.len(), counts.len());
+    let rows = rows_of(set.second, times.len(), counts.len());
     Sum::Value(sum_squares(out, rows))
 }

@@ -9,6 +9,7 @@ use native.Mathlib.Omega.{arith}
 use lib.ListN.{length, getD, take, drop, set, length-append}
 use lib.Seq.{take-suc, take-length, drop-cons, set-at, length-take-le}
 use lib.Ieee.{Float, nan, lt}
+use borrow.Author.Tests.{ne-eqb}
 use Rattle.refusal.specs.Numbers as refusal
 use Rattle.float.specs.Ops.{_⊗_, _⊘_, bits}
 use Rattle.orbit.specs.declared.doppler.Station.{Station}
@@ -23,7 +24,8 @@ use Rattle.normal.specs.Answers.{outcome}
 use Rattle.normal.specs.declared.Step.{Step}
 use Rattle.normal.specs.declared.Step.the-variants.{Next, Short, Singular, Refused as RefusedStep}
 use Rattle.refine.specs.Advance.{advanceOf, cellsOf}
-use Rattle.book.specs.Book.{ten-bits, mostDamping-bits, smallStep-bits, Search, After, judged, arrival, onward, Book}
+use Rattle.book.specs.Book.{ten-bits, mostDamping-bits, smallStep-bits, Search, After, judged, arrival, onward, Book, farRefusal}
+use Rattle.book.specs.declared.Ending.{Ending}
 use Rattle.book.specs.declared.Ending.the-variants.{Running, Damped, Converged, Refused as RefusedEnd}
 use Rattle.trials.specs.Trials.{stateAfter, rowsIn, Tries, Arrives, Follows}
 use Rattle.trials.specs.declared.State.{State}
@@ -140,6 +142,11 @@ rows-length rows r h = length-take-le rows r h
 
 pub table-room : (rows m p room : ℕ) (r : List Float) → rows ≤ length r → rows ≡ m → m * p ≤ room → length (take rows r) * p ≤ room
 table-room rows m p room r h e l = rw (rows-length rows r h, e) l
+
+-- ---- the refusal that an ending gives: the solver's is not the fit's
+
+pub not-carried : (e : Ending) (k : ℕ) → e ≡ RefusedEnd k → (k ≡ refusal.far-moment → ⊥) → 0 ≡ farRefusal e
+not-carried e k is h = rw (is, ne-eqb k refusal.far-moment h)
 
 -- ---- a copy
 

@@ -11,13 +11,13 @@ ghost use Rattle.residuals.specs.Answers.{Filled};
 ghost use Rattle.refine.specs.Advance.{advanceOf, cellsOf};
 ghost use Rattle.normal.specs.Step.{next};
 ghost use Rattle.normal.specs.Answers.{outcome};
-ghost use Rattle.book.specs.Book.{openBook, judged, arrival, onward, book};
+ghost use Rattle.book.specs.Book.{farRefusal, openBook, judged, arrival, onward, book};
 ghost use Rattle.trials.specs.Trials.{stateSearch, stateAfter, TrialsAsk, Tries, HeldResiduals, Arrives, Follows, Runs};
 use book::Ending;
 use normal::Step;
 use orbit::doppler::Station;
-use refine::Point;
 use residuals::PARAMS;
+use residuals::Point;
 use residuals::ROWS;
 use residuals::Sum;
 
@@ -119,20 +119,26 @@ fn judge(s: State, sum: f64) -> State
 
 // One trial: the sum of the state's next set, compared with the best. The set's residuals are left in the first places of r.
 pub fn trial(
-    second: bool,
+    w: Refinement,
     counts: &[u32],
     times: &[u64],
     freqs: &[f64],
     turns: &[f64],
-    g: Station,
     s: State,
     r: &mut [f64],
 ) -> Tried
-    requires { ⌜ Samples g (passesOf (now counts) (now times) (now freqs)) (now turns) × (length (now times) + 3 * length (now counts) ≤ length (now r)) ⌝ }
-    ensures { λ t. ⌜ Tries second g (passesOf (now (counts .entry)) (now (times .entry)) (now (freqs .entry))) (stateSearch s) (now (r .exit)) t ⌝ }
+    requires { ⌜ Samples (w .station) (passesOf (now counts) (now times) (now freqs)) (now turns) × (length (now times) + 3 * length (now counts) ≤ length (now r)) ⌝ }
+    ensures { λ t. ⌜ Tries (w .second) (w .station) (passesOf (now (counts .entry)) (now (times .entry)) (now (freqs .entry))) (stateSearch s) (now (r .exit)) t ⌝ }
 {
-    let x = s.params;
-    let answer = residuals::penalised_sum(second, counts, times, freqs, turns, g, x, r);
+    let second = w.second;
+    let station = w.station;
+    let params = s.params;
+    let set = Point {
+        second,
+        station,
+        params,
+    };
+    let answer = residuals::penalised_sum(set, counts, times, freqs, turns, r);
     match answer {
         Sum::Value(sum) => {
             let state = judge(s, sum);
@@ -218,10 +224,7 @@ fn at_hand(
     if known {
         return 0;
     }
-    let second = p.second;
-    let g = p.station;
-    let x = p.params;
-    residuals::residuals_into(second, counts, times, freqs, turns, g, x, r)
+    residuals::residuals_into(p, counts, times, freqs, turns, r)
 }
 
 // What follows a trial, in the reference's order: the residuals of the set at hand, which are known where the trial kept it and worked
@@ -293,13 +296,11 @@ pub fn refine_trials(
         (advanceOf (w .second) (w .station) (passesOf (now (counts .entry)) (now (times .entry)) (now (freqs .entry)))) (w .enough) start most) (now (log .entry)) (now (log .exit))
         (cellsOf (w .second) (passesOf (now (counts .entry)) (now (times .entry)) (now (freqs .entry)))) (now (scratch .entry)) (now (scratch .exit)) t ⌝ }
 {
-    let second = w.second;
-    let g = w.station;
     let mut s = open(start);
     let mut n = 0usize;
     while n < most {
         let mut r = [0.0; ROWS];
-        let t = trial(second, counts, times, freqs, turns, g, s, &mut r);
+        let t = trial(w, counts, times, freqs, turns, s, &mut r);
         let after = t.state;
         s = after;
         let answer = t.sum;
@@ -324,6 +325,24 @@ pub fn refine_trials(
         }
     }
     Trials { count: n, state: s }
+}
+
+// The refusal that a refinement's ending gives the fit, or 0: 23 is carried on, while the solver's 22 ended the refinement and no more.
+pub fn far_refusal(e: Ending) -> u32
+    ensures { λ r. ⌜ r ≡ farRefusal e ⌝ }
+{
+    match e {
+        Ending::Running => 0,
+        Ending::Refused(number) => {
+            if number == refusal::FAR_MOMENT {
+                return number;
+            }
+            0
+        }
+        Ending::Short => 0,
+        Ending::Damped => 0,
+        Ending::Converged => 0,
+    }
 }
 
 // Writes the numbers to the first places of out: a log or residuals that were kept apart until no refusal could come.

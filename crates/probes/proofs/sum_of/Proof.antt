@@ -18,7 +18,7 @@ put-requires : tie.Need-put-requires
 put-requires c κs =
     let p = c .before .before .before .before .before .before in
     let n = p .before .before in
-    put-fits (n .rows-of .result) _ (p .penalised-sum .last .1 .1 .1 .1 .1 .1 .1 .0) (search needs) (search needs)
+    put-fits (n .rows-of .result) _ (p .penalised-sum .last .1 .1 .1 .1 .1 .0) (search needs) (search needs)
 
 returns : tie.Need-returns
 returns c =

@@ -3,8 +3,7 @@ use mathlib.Core.Path.{sym, ap, _∙_}
 use lib.Dec.{lit≤}
 use Rattle.moment.proofs.Samples.{within-sound}
 use borrow.Author.Needs.{needs}
-use Rattle.book.specs.Book.{After}
-use Rattle.probes.specs.Call.{endingRefusal}
+use Rattle.book.specs.Book.{After, farRefusal}
 use Rattle.probes.proofs.Calls.{taken, tries-refused, tries-far, tries-found}
 use Rattle.probes.proofs.trial.Statement.{statement}
 use Rattle.probes.proofs.trial.Tie as tie
@@ -34,7 +33,7 @@ returns-2 c =
     let l = s .before in
     let led = rw (s .station .ensures .0) at (w .turned-in .ensures) in
     tries-far _ _ _ _ _ (sym (l .before .refusal-of .ensures) ∙ l .if1 .left) (w .turned-in .kept .1 .1 .1 .1 .1 .1 .1 .1 .0) (z .clear .ensures) _
-    (e .ending-refusal .ensures ∙ ap (λ (a : After). endingRefusal (a .ended)) led) _ (c .before .if2 .taken) (c .refused2 .ensures)
+    (e .far-refusal .ensures ∙ ap (λ (a : After). farRefusal (a .ended)) led) _ (c .before .if2 .taken) (c .refused2 .ensures)
 
 returns-3 : tie.Need-returns-3
 returns-3 c =
@@ -45,7 +44,7 @@ returns-3 c =
     let l = s .before in
     let led = rw (s .station .ensures .0) at (w .turned-in .ensures) in
     tries-found _ _ _ _ _ (sym (l .before .refusal-of .ensures) ∙ l .if1 .left) (w .turned-in .kept .1 .1 .1 .1 .1 .1 .1 .1 .0) (z .clear .ensures) _
-    (e .ending-refusal .ensures ∙ ap (λ (a : After). endingRefusal (a .ended)) led) _ (c .if2 .left) led
+    (e .far-refusal .ensures ∙ ap (λ (a : After). farRefusal (a .ended)) led) _ (c .if2 .left) led
 
 pub trial-spec : {M : Type 1} → statement M
 trial-spec =

@@ -27,7 +27,7 @@ follow-requires c κs =
     let p = s .pre in (
       fits-of _ _ _ _ _ _ _ (samples-of _ _ _ _ _ (p .0) (p .1) (p .2)) (p .3),
       record {
-        room = omega (arith, p .0 .few, p .0 .small, u .trial .kept .1 .1 .1 .1 .1 .1 .1 .0);
+        room = omega (arith, p .0 .few, p .0 .small, u .trial .kept .1 .1 .1 .1 .1 .1 .0);
         held = λ k. held-of (a .second) (a .g) (passesOf (a .counts .now) (a .times .now) (a .freqs .now)) _ _ _ (u .trial .ensures) k;
       },
     )

@@ -40,18 +40,18 @@ record Inner (one : ℕ → ℕ → ℕ → _) (counts times : List ℕ) (freqs 
   whole : (some (take k out) then (samples one p first k (end - k) then passes one (p + 1) end (drop (p + 1) counts))) ≡ passes one 0 0 counts
 
 abbrev Inv-loop : tie.InvT-loop
-Inv-loop second counts times freqs turns g x out₀ sight refusal₀ k₀ p first end dt b out refusal k =
-    Inner (residual second g (passesOf counts times freqs) x) counts times freqs out₀ p first end out refusal k
+Inv-loop set counts times freqs turns out₀ second x sight refusal₀ k₀ p first end dt b out refusal k =
+    Inner (residual (set .second) (set .station) (passesOf counts times freqs) (set .params)) counts times freqs out₀ p first end out refusal k
 
 abbrev μ-loop : tie.MeasureT-loop
-μ-loop second counts times freqs turns g x out₀ sight refusal₀ k₀ p first end dt b out refusal k = end - k
+μ-loop set counts times freqs turns out₀ second x sight refusal₀ k₀ p first end dt b out refusal k = end - k
 
 abbrev Inv-passes : tie.InvT-passes
-Inv-passes second counts times freqs turns g x out₀ sight refusal₀ k₀ p₀ out refusal k p =
-    Outer (residual second g (passesOf counts times freqs) x) counts out₀ out refusal k p
+Inv-passes set counts times freqs turns out₀ second x sight refusal₀ k₀ p₀ out refusal k p =
+    Outer (residual (set .second) (set .station) (passesOf counts times freqs) (set .params)) counts out₀ out refusal k p
 
 abbrev μ-passes : tie.MeasureT-passes
-μ-passes second counts times freqs turns g x out₀ sight refusal₀ k₀ p₀ out refusal k p = length counts - p
+μ-passes set counts times freqs turns out₀ second x sight refusal₀ k₀ p₀ out refusal k p = length counts - p
 
 passes-holds : tie.Need-passes-holds Inv-loop μ-loop Inv-passes μ-passes
 passes-holds c = record { clear = refl; within = search needs; left = omega arith; same = refl; whole = then-nil _ }
@@ -62,14 +62,14 @@ cast-end c = omega (arith, c .shared-slice-known5 .given (c .before .before .pas
 add-end : tie.Need-add-end Inv-loop μ-loop Inv-passes μ-passes
 add-end c =
     let at = c .before .before in
-    let entry = at .before .before .before .before .before .before .before .before in
+    let entry = at .before .before .before .before .before .before .before .before .before in
     omega (arith, entry .pre .0 .whole, entry .pre .0 .small, total-next (entry .args .counts .now) (at .passes .p) (c .before .passes-test .taken))
 
 loop-holds : tie.Need-loop-holds Inv-loop μ-loop Inv-passes μ-passes
 loop-holds c =
     let turn = c .before .before .before in
     let at = turn .before in
-    let entry = at .before .before .before .before .before .before .before .before in
+    let entry = at .before .before .before .before .before .before .before .before .before in
     let counts = entry .args .counts .now in
     let step = total-next counts (at .passes .p) (turn .passes-test .taken) in
     record {
@@ -89,7 +89,7 @@ predict-sample-requires : tie.Need-predict-sample-requires Inv-loop μ-loop Inv-
 predict-sample-requires c κs =
     let head = c .before in
     let known = head .before .before .before .before .before .before in
-    let pre = known .before .before .before .before .before .before .before .pre in (
+    let pre = known .before .before .before .before .before .before .before .before .pre in (
       sight-sound _ _ _ (known .sight-of .ensures) (pre .0 .epoch),
       pre .0 .turned,
       omega (arith, head .loop .inv .from, head .loop .inv .inside, c .loop-test .taken),
@@ -127,7 +127,7 @@ passes-again : tie.Need-passes-again Inv-loop μ-loop Inv-passes μ-passes
 passes-again c =
     let head = c .before in
     let entered = head .before .before .before .before .before in
-    let entry = entered .before .before .before .before .before .before .before .before in
+    let entry = entered .before .before .before .before .before .before .before .before .before in
     let args = entry .args in
     let p = entered .passes .p in
     record {
@@ -137,14 +137,14 @@ passes-again c =
       same = head .loop .inv .same ∙ entered .passes .inv .same;
       whole =
           past-pass _ _ (take (head .loop .k) (head .loop .out)) p _ (head .loop .k) _
-          (λ (j : ℕ). passes (residual (args .second) (args .g) (passesOf (args .counts .now) (args .times .now) (args .freqs .now)) (args .x)) (p + 1) j (drop (p + 1) (args .counts .now)))
+          (λ (j : ℕ). passes (residual (args .set .second) (args .set .station) (passesOf (args .counts .now) (args .times .now) (args .freqs .now)) (args .set .params)) (p + 1) j (drop (p + 1) (args .counts .now)))
           (head .loop .inv .upto) (c .loop-test .left) (head .loop .inv .whole);
     }
 
 returns : tie.Need-returns Inv-loop μ-loop Inv-passes μ-passes
 returns c =
     let head = c .before in
-    let entry = head .before .before .before .before .before .before .before .before in
+    let entry = head .before .before .before .before .before .before .before .before .before in
     let args = entry .args in
     let end : head .passes .k ≡ length (args .times .now) = omega (arith, entry .pre .0 .whole, total-end (args .counts .now) (head .passes .p) (c .passes-test .left)) in
     let whole = ap (λ (n : ℕ). some (take n (head .passes .out))) (sym end) ∙ past-passes _ _ _ (head .passes .p) _ _ (c .passes-test .left) (head .passes .inv .whole) in

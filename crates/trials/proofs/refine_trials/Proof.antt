@@ -15,36 +15,36 @@ use Rattle.trials.proofs.refine_trials.Statement.{statement}
 use Rattle.trials.proofs.refine_trials.Tie as tie
 
 abbrev Inv-loop : tie.InvT-loop
-Inv-loop w most counts times freqs turns log₀ scratch₀ second g s₀ n₀ log scratch s n =
+Inv-loop w most counts times freqs turns log₀ scratch₀ s₀ n₀ log scratch s n =
     Inv (penalisedSum (w .second) (w .station) (passesOf counts times freqs)) (advanceOf (w .second) (w .station) (passesOf counts times freqs)) (w .enough) most (s₀ .params) log₀ log s n
     × (length scratch ≡ length scratch₀)
     × (drop (cellsOf (w .second) (passesOf counts times freqs)) scratch ≡ drop (cellsOf (w .second) (passesOf counts times freqs)) scratch₀)
 
 abbrev μ-loop : tie.MeasureT-loop
-μ-loop w most counts times freqs turns log₀ scratch₀ second g s₀ n₀ log scratch s n = most - n
+μ-loop w most counts times freqs turns log₀ scratch₀ s₀ n₀ log scratch s n = most - n
 
 loop-holds : tie.Need-loop-holds Inv-loop μ-loop
 loop-holds c = (opens-from _ _ (c .open .ensures) _ _ _ _ _, refl, refl)
 
 trial-requires : tie.Need-trial-requires Inv-loop μ-loop
 trial-requires c κs =
-    let s = c .before .before .before .before .before .before .before .before .before .before .before in
+    let s = c .before .before .before .before .before .before .before .before .before .before in
     (s .pre .0 .samples, omega (arith, s .pre .0 .samples .few, s .pre .0 .samples .small))
 
 mul-log : tie.Need-mul-log Inv-loop μ-loop
 mul-log c =
     let q = c .before .before .before .before .before .before .before in
-    record { fits = omega (arith, q .loop-test .taken, q .before .before .before .before .before .before .before .before .before .before .pre .2) }
+    record { fits = omega (arith, q .loop-test .taken, q .before .before .before .before .before .before .before .before .before .pre .2) }
 
 slice-write-log : tie.Need-slice-write-log Inv-loop μ-loop
 slice-write-log c =
     let q = c .before .before .before .before .before .before .before in
-    omega (arith, q .loop-test .taken, q .before .before .before .before .before .before .before .before .before .before .pre .1, q .before .loop .inv .0 .same)
+    omega (arith, q .loop-test .taken, q .before .before .before .before .before .before .before .before .before .pre .1, q .before .loop .inv .0 .same)
 
 add-n : tie.Need-add-n Inv-loop μ-loop
 add-n c =
     let q = c .before .before .before .before .before .before .before in
-    record { fits = omega (arith, q .loop-test .taken, q .before .before .before .before .before .before .before .before .before .before .pre .2) }
+    record { fits = omega (arith, q .loop-test .taken, q .before .before .before .before .before .before .before .before .before .pre .2) }
 
 follow-requires : tie.Need-follow-requires Inv-loop μ-loop
 follow-requires c κs =
@@ -52,11 +52,11 @@ follow-requires c κs =
     let u = v .before .before .before .before in
     let q = u .before .before in
     let h = q .before in
-    let s = h .before .before .before .before .before .before .before .before .before in
+    let s = h .before .before .before .before .before .before .before .before in
     let a = s .args in (
       record { samples = s .pre .0 .samples; table = rw (h .loop .inv .1) (s .pre .0 .table) },
       record {
-        room = omega (arith, s .pre .0 .samples .few, s .pre .0 .samples .small, u .trial .kept .1 .1 .1 .1 .1 .1 .1 .0);
+        room = omega (arith, s .pre .0 .samples .few, s .pre .0 .samples .small, u .trial .kept .1 .1 .1 .1 .1 .1 .0);
         held = λ k. kept-held (a .w .second) (a .w .station) (passesOf (a .counts .now) (a .times .now) (a .freqs .now)) _ _ _ _ (u .trial .ensures) (sym (v .answer .given .1)) k;
       },
     )
@@ -72,7 +72,7 @@ loop-again c =
     let u = v .before .before .before .before in
     let q = u .before .before in
     let h = q .before in
-    let s = h .before .before .before .before .before .before .before .before .before in
+    let s = h .before .before .before .before .before .before .before .before in
     let a = s .args in (
       goes-on _ _ _ _ _ _ _ _ _ (h .loop .inv .0) (q .loop-test .taken) (s .pre .1) _ (u .trial .ensures .after) _ (summed (a .w .second) (a .w .station) (passesOf (a .counts .now) (a .times .now) (a .freqs .now)) (h .loop .s .params) _ _ _ (u .trial .ensures .summed) (sym (v .answer .given .1))) _ (r .enum-told2 .given .1) (w .follow .ensures .arrives)
           (goes-large _ _ _ (w .follow .ensures .arrives) _ (c .before .before .step .given .1) (c .if1 .left)),
@@ -90,7 +90,7 @@ returns-2 c =
     let u = c .before .before .before .before in
     let q = u .before .before in
     let h = q .before in
-    let s = h .before .before .before .before .before .before .before .before .before in
+    let s = h .before .before .before .before .before .before .before .before in
     let a = s .args in
     record {
       runs = rw (started _ _ (h .before .open .ensures)) at (stops-far _ _ _ _ _ _ _ _ _ (h .loop .inv .0) (q .loop-test .taken) (s .pre .1) _ (u .trial .ensures .after) (summed-far (a .w .second) (a .w .station) (passesOf (a .counts .now) (a .times .now) (a .freqs .now)) (h .loop .s .params) _ _ _ (u .trial .ensures .summed) (sym (c .enum-told .given .1))));
@@ -103,7 +103,7 @@ returns-3 c =
     let u = v .before .before .before .before in
     let q = u .before .before in
     let h = q .before in
-    let s = h .before .before .before .before .before .before .before .before .before in
+    let s = h .before .before .before .before .before .before .before .before in
     let a = s .args in
     record {
       runs = rw (started _ _ (h .before .open .ensures)) at (stops-tried _ _ _ _ _ _ _ _ _ (h .loop .inv .0) (q .loop-test .taken) (s .pre .1) _ (u .trial .ensures .after) _ (summed (a .w .second) (a .w .station) (passesOf (a .counts .now) (a .times .now) (a .freqs .now)) (h .loop .s .params) _ _ _ (u .trial .ensures .summed) (sym (v .answer .given .1))) (ended-of _ (c .match2 .keys2)));
@@ -118,7 +118,7 @@ returns-4 c =
     let u = v .before .before .before .before in
     let q = u .before .before in
     let h = q .before in
-    let s = h .before .before .before .before .before .before .before .before .before in
+    let s = h .before .before .before .before .before .before .before .before in
     let a = s .args in
     record {
       runs = rw (started _ _ (h .before .open .ensures)) at (stops-followed _ _ _ _ _ _ _ _ _ (h .loop .inv .0) (q .loop-test .taken) (s .pre .1) _ (u .trial .ensures .after) _ (summed (a .w .second) (a .w .station) (passesOf (a .counts .now) (a .times .now) (a .freqs .now)) (h .loop .s .params) _ _ _ (u .trial .ensures .summed) (sym (v .answer .given .1))) _ (r .enum-told2 .given .1) (w .follow .ensures .arrives)
@@ -134,7 +134,7 @@ returns-5 c =
     let u = v .before .before .before .before in
     let q = u .before .before in
     let h = q .before in
-    let s = h .before .before .before .before .before .before .before .before .before in
+    let s = h .before .before .before .before .before .before .before .before in
     let a = s .args in
     record {
       runs = rw (started _ _ (h .before .open .ensures)) at (stops-followed _ _ _ _ _ _ _ _ _ (h .loop .inv .0) (q .loop-test .taken) (s .pre .1) _ (u .trial .ensures .after) _ (summed (a .w .second) (a .w .station) (passesOf (a .counts .now) (a .times .now) (a .freqs .now)) (h .loop .s .params) _ _ _ (u .trial .ensures .summed) (sym (v .answer .given .1))) _ (r .enum-told2 .given .1) (w .follow .ensures .arrives)

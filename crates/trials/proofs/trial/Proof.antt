@@ -11,15 +11,15 @@ returns : tie.Need-returns
 returns c =
     let v = c .before .before .before in
     let p = v .before .before .before .before in
-    let a = p .before .before .before .before .before .before .before .before .args in
-    tried-value (a .second) (a .g) (passesOf (a .counts .now) (a .times .now) (a .freqs .now)) (stateSearch (a .s)) _ _ (p .penalised-sum .ensures) _ _ _ (sym (v .answer .given .1)) refl (c .before .judge .ensures)
+    let a = p .before .before .before .before .before .before .before .before .before .args in
+    tried-value (a .w .second) (a .w .station) (passesOf (a .counts .now) (a .times .now) (a .freqs .now)) (stateSearch (a .s)) _ _ (p .penalised-sum .ensures) _ _ _ (sym (v .answer .given .1)) refl (c .before .judge .ensures)
 
 returns-2 : tie.Need-returns-2
 returns-2 c =
     let v = c .before .before in
     let p = v .before .before .before .before in
-    let a = p .before .before .before .before .before .before .before .before .args in
-    tried-far (a .second) (a .g) (passesOf (a .counts .now) (a .times .now) (a .freqs .now)) (stateSearch (a .s)) _ _ (p .penalised-sum .ensures) _ _ (sym (v .answer2 .given .1)) (c .end .ensures)
+    let a = p .before .before .before .before .before .before .before .before .before .args in
+    tried-far (a .w .second) (a .w .station) (passesOf (a .counts .now) (a .times .now) (a .freqs .now)) (stateSearch (a .s)) _ _ (p .penalised-sum .ensures) _ _ (sym (v .answer2 .given .1)) (c .end .ensures)
 
 pub trial-spec : {M : Type 1} → statement M
 trial-spec =

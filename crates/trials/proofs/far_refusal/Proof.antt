@@ -1,8 +1,8 @@
 -- `far_refusal` meets its contract. Assumes nothing.
 use borrow.Author.Needs.{needs}
-use Rattle.fit.proofs.Steps.{not-carried}
-use Rattle.fit.proofs.far_refusal.Statement.{statement}
-use Rattle.fit.proofs.far_refusal.Tie as tie
+use Rattle.trials.proofs.Laws.{not-carried}
+use Rattle.trials.proofs.far_refusal.Statement.{statement}
+use Rattle.trials.proofs.far_refusal.Tie as tie
 
 -- the solver's refusal is not the fit's
 returns-3 : tie.Need-returns-3
