@@ -15,7 +15,7 @@ use Rattle.moment.specs.Sample.{timeInRange, momentAt}
 use Rattle.moment.specs.declared.Moment.{Moment}
 use Rattle.frame.specs.declared.Vec3.{Vec3}
 use Rattle.solution.specs.declared.SolvedOrbit.{SolvedOrbit}
-use Rattle.command.specs.Report.{noMoment, momentIn, sampleMoment, biasesAt, passOf, squaresOf, walkPass, withPass, openWalk, meanRoot, rmsOf, noBiases, biasesOf}
+use Rattle.command.specs.Report.{noMoment, momentIn, sampleMoment, biasesAt, biasedPass, squaresOf, walkPass, withPass, openWalk, meanRoot, rmsOf, noBiases, biasesOf}
 use Rattle.command.specs.declared.report.Biases.{Biases}
 use Rattle.command.specs.declared.report.Fitted.{Fitted}
 use Rattle.command.specs.declared.report.Walk.{Walk}
@@ -38,12 +38,12 @@ past-samples times k h = sym (ap (λ (b : Bool). cond b (momentIn (getD times k 
 
 -- one pass more
 pub walks : (times : List ℤ) (freqs : List Float) (g : Fitted) (b : Biases) (n : ℕ) (w : Walk) {since : Moment} {sum : Float}
-    → (n ≡ 0 → ⊥) → since ≡ sampleMoment times (w .at) → sum ≡ squaresOf times freqs g (passOf b since) (w .at) (w .at + n) (w .sum)
+    → (n ≡ 0 → ⊥) → since ≡ sampleMoment times (w .at) → sum ≡ squaresOf times freqs g (biasedPass b since) (w .at) (w .at + n) (w .sum)
     → record { sum = sum; at = w .at + n; passes = w .passes + 1 } ≡ walkPass times freqs g b n w
 walks times freqs g b zero w h e s = absurd (h refl)
 walks times freqs g b (suc n) w h e s =
     ap (λ (v : Float). record { sum = v; at = w .at + suc n; passes = w .passes + 1 })
-    (s ∙ ap (λ (m : Moment). squaresOf times freqs g (passOf b m) (w .at) (w .at + suc n) (w .sum)) e)
+    (s ∙ ap (λ (m : Moment). squaresOf times freqs g (biasedPass b m) (w .at) (w .at + suc n) (w .sum)) e)
 
 pub walks-none : (times : List ℤ) (freqs : List Float) (g : Fitted) (b : Biases) (n : ℕ) (w : Walk) → n ≡ 0 → w ≡ walkPass times freqs g b n w
 walks-none times freqs g b n w h = sym (ap (λ (m : ℕ). walkPass times freqs g b m w) h)

@@ -42,8 +42,8 @@ residualOf g b m f =
 abbrev pub biasesAt : List Float → List Float → List Float → List Float → ℕ → Biases
 biasesAt dts dfs df1s df2s q = record { sampled = true; dt = getD dts q nan; df = getD dfs q nan; df1 = getD df1s q nan; df2 = getD df2s q nan }
 
-abbrev pub passOf : Biases → Moment → Pass
-passOf b m = record { dt = b .dt; df = record { 0 = b .df; 1 = b .df1; 2 = b .df2 }; since = m }
+abbrev pub biasedPass : Biases → Moment → Pass
+biasedPass b m = record { dt = b .dt; df = record { 0 = b .df; 1 = b .df1; 2 = b .df2 }; since = m }
 
 module _ (times : List ℤ) (freqs : List Float) (g : Fitted) where
   -- the squares of the residuals from sample `at` up to `end`, added in order
@@ -57,7 +57,7 @@ module _ (times : List ℤ) (freqs : List Float) (g : Fitted) where
   abbrev pub walkPass : Biases → ℕ → Walk → Walk
   walkPass b zero w = w
   walkPass b (suc n) w =
-      record { sum = squaresOf (passOf b (sampleMoment times (w .at))) (w .at) (w .at + suc n) (w .sum); at = w .at + suc n; passes = w .passes + 1 }
+      record { sum = squaresOf (biasedPass b (sampleMoment times (w .at))) (w .at) (w .at + suc n) (w .sum); at = w .at + suc n; passes = w .passes + 1 }
 
   -- pass p; its biases are those of the next non-empty pass
   abbrev pub withPass : (counts : List ℕ) (dts dfs df1s df2s : List Float) (p : ℕ) (w : Walk) → Walk

@@ -11,11 +11,12 @@ use lib.ListN.{length, getD, take, drop}
 use lib.Seq.{take-at, drop-at}
 use lib.Ieee.{Float, lt}
 use borrow.Author.Tests.{ne-eqb}
+use Rattle.float.specs.Ops.{at}
 use Rattle.refusal.specs.Numbers as refusal
 use Rattle.refusal.specs.Order.{first, _if_}
 use Rattle.moment.specs.declared.Instant.{Instant}
 use Rattle.moment.proofs.Samples.{moment-instant}
-use Rattle.residuals.specs.Residuals.{at, penalisedSum}
+use Rattle.residuals.specs.Residuals.{penalisedSum}
 use Rattle.orbit.specs.Doppler.{stationAt}
 use Rattle.orbit.specs.declared.doppler.Station.{Station}
 use Rattle.book.specs.Book.{Book, farEnding}

@@ -12,11 +12,11 @@ use lib.ListN.{length, take, set, length-set}
 use lib.Seq.{getD-set-same, getD-set-other, getD-take, length-take-le}
 use lib.Ieee.{Float, nan, lt}
 use Rattle.refusal.specs.Numbers as refusal
-use Rattle.float.specs.Ops.{_⊕_, _⊖_}
+use Rattle.float.specs.Ops.{_⊕_, _⊖_, at}
 use Rattle.loops.specs.Loop.{turns, for}
 use Rattle.linear.specs.Elimination.{solutionOf}
 use Rattle.residuals.specs.Samples.{Passes}
-use Rattle.residuals.specs.Residuals.{at, placeOf, rowsOf, residuals, penalisedSum}
+use Rattle.residuals.specs.Residuals.{placeOf, rowsOf, residuals, penalisedSum}
 use Rattle.orbit.specs.declared.doppler.Station.{Station}
 use Rattle.normal.specs.Normal.{jtjOf, jtrOf}
 use Rattle.normal.specs.Step.{

@@ -11,25 +11,9 @@ use native.Mathlib.Omega.{arith}
 use lib.ListN.{length, drop, List·getD-append}
 use lib.Seq.{getD-at}
 use lib.Ieee.{Float, nan}
+use Rattle.float.specs.Ops.{at}
 use Rattle.residuals.specs.Samples.{Passes}
-use Rattle.residuals.specs.Residuals.{
-  at,
-  elementsOf,
-  placeOf,
-  dtOf,
-  passBias,
-  residual,
-  samples,
-  passes,
-  _then_,
-  dtPenalties,
-  driftPenalties,
-  penalties,
-  residuals,
-  each,
-  sumOf,
-  penalisedSum,
-}
+use Rattle.residuals.specs.Residuals.{elementsOf, placeOf, dtOf, passBias, residual, samples, passes, _then_, dtPenalties, driftPenalties, penalties, residuals, each, sumOf, penalisedSum}
 use Rattle.orbit.specs.declared.doppler.Station.{Station}
 use Rattle.solution.specs.declared.SolvedOrbit.{SolvedOrbit}
 use Rattle.fit.specs.Answer.{biases, Outputs, over}

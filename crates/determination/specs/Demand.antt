@@ -6,9 +6,9 @@ use mathlib.Core.Option.{Option, none, some}
 use Prim.Native.Nat.{ℕ, zero, suc, _+_, _≤_}
 use lib.ListN.{length, take, drop}
 use lib.Ieee.{Float, lt, le}
-use Rattle.float.specs.Ops.{largest}
+use Rattle.float.specs.Ops.{largest, at}
 use Rattle.orbit.specs.Doppler.{stationAt}
-use Rattle.residuals.specs.Residuals.{at, penalisedSum}
+use Rattle.residuals.specs.Residuals.{penalisedSum}
 use Rattle.book.specs.Demand.{largestSum, Falling, minima, keptSets, lastOf, lastSet}
 use Rattle.solution.specs.declared.SolvedOrbit.{SolvedOrbit}
 use Rattle.fit.specs.Fit.{observedPasses}

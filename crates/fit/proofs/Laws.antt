@@ -9,8 +9,7 @@ use lib.ListN.{length, take, drop, set, length-append}
 use lib.Seq.{length-take-le}
 use lib.IntN.{ℤ}
 use lib.Ieee.{Float, lt}
-use Rattle.float.specs.Ops.{absOf}
-use Rattle.residuals.specs.Residuals.{at}
+use Rattle.float.specs.Ops.{absOf, at}
 use Rattle.solution.specs.declared.SolvedOrbit.{SolvedOrbit}
 use Rattle.trials.specs.declared.Trials.{Trials}
 use Rattle.trials.proofs.Laws.{more}

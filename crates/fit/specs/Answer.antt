@@ -9,11 +9,10 @@ use lib.Ieee.{Float, lt, ofBits, round}
 use Rattle.refusal.specs.Numbers as refusal
 use Rattle.refusal.specs.Order.{Refusal, first, _if_}
 use Rattle.float.specs.Constant.{decimal}
-use Rattle.float.specs.Ops.{bits, absOf}
+use Rattle.float.specs.Ops.{bits, absOf, at}
 use Rattle.moment.specs.Sample.{momentAt}
 use Rattle.frame.specs.declared.Vec3.{Vec3}
 use Rattle.solution.specs.declared.SolvedOrbit.{SolvedOrbit}
-use Rattle.residuals.specs.Residuals.{at}
 use Rattle.book.specs.Book.{Search, Book, farEnding}
 use Rattle.book.specs.Demand.{largestSum}
 use Rattle.book.specs.declared.Ending.{Ending}

@@ -4,6 +4,8 @@ use lib.IntN.{pos}
 use lib.Ieee.{Float, nan, inf, fin, binary64, up, down, neg, lt, isNan, round, ofBits}
 use mathlib.Core.Path.{_≡_, refl}
 use mathlib.Core.Bool.{true, false, _||_, cond}
+use mathlib.Core.List.{List}
+use lib.ListN.{getD}
 use Prim.Native.Nat.{ℕ, zero, suc, _+_, _-_, _*_, _/_, _^_}
 use Rattle.float.specs.Constant.{decimal}
 
@@ -31,6 +33,14 @@ x ⊛ y = Ieee.rem binary64 x y
 -- the f64 of a bit pattern; `bits 0` is +0.0
 abbrev pub bits : ℕ → Float
 bits n = Ieee.ofBits binary64 n
+
+-- the f64 of a whole number
+abbrev pub ofNat : ℕ → Float
+ofNat n = Ieee.ofInt binary64 (pos n)
+
+-- the number at a place of a list, or NaN
+abbrev pub at : List Float → ℕ → Float
+at x k = getD x k nan
 
 unfoldable pub one : Float
 one = decimal 1 0

@@ -3,10 +3,9 @@ use Prim.Native.Nat.{ℕ, _-_, _/_, _%_}
 use mathlib.Core.Bool.{cond, not}
 use mathlib.Core.List.{[], _∷_}
 use lib.Dec.{leb}
-use lib.IntN.{pos}
-use lib.Ieee.{Float, binary64, ofInt}
+use lib.Ieee.{Float}
 use Rattle.float.specs.Constant.{decimal}
-use Rattle.float.specs.Ops.{_⊕_, _⊖_, _⊗_, _⊘_, floorOf}
+use Rattle.float.specs.Ops.{_⊕_, _⊖_, _⊗_, _⊘_, floorOf, ofNat}
 use Rattle.refusal.specs.Numbers as refusal
 use Rattle.refusal.specs.Order.{first, _if_, unless}
 use Rattle.moment.specs.Origin.{perDay, march1956}
@@ -18,14 +17,10 @@ use Rattle.moment.specs.declared.calendar.Date.{Date}
 use Rattle.frame.specs.declared.JulianDate.{JulianDate}
 use Rattle.frame.specs.declared.JulianDate.the-variants.{At, Refused}
 
--- a whole number
-abbrev pub num : ℕ → Float
-num n = ofInt binary64 (pos n)
-
 -- the part of a day after so many seconds and nanoseconds
 unfoldable pub dayFraction : ℕ → ℕ → Float
 dayFraction secs nanos =
-    (num (secs / 3600) ⊕ (num (secs / 60 % 60) ⊕ (num (secs % 60) ⊕ num nanos ⊘ decimal 1000000000 0) ⊘ decimal 60 0) ⊘ decimal 60 0)
+    (ofNat (secs / 3600) ⊕ (ofNat (secs / 60 % 60) ⊕ (ofNat (secs % 60) ⊕ ofNat nanos ⊘ decimal 1000000000 0) ⊘ decimal 60 0) ⊘ decimal 60 0)
     ⊘ decimal 24 0
 
 -- of a year, a month from 3 to 14, and a day with its part: formula 7.1
@@ -39,8 +34,8 @@ julianOf y m day =
 -- of a date: January and February are months 13 and 14 of the year before
 unfoldable pub jdOf : Date → Float → Float
 jdOf d part =
-    cond (leb (d .month) 2) (julianOf (num (d .year) ⊖ decimal 1 0) (num (d .month) ⊕ decimal 12 0) (num (d .day) ⊕ part))
-    (julianOf (num (d .year)) (num (d .month)) (num (d .day) ⊕ part))
+    cond (leb (d .month) 2) (julianOf (ofNat (d .year) ⊖ decimal 1 0) (ofNat (d .month) ⊕ decimal 12 0) (ofNat (d .day) ⊕ part))
+    (julianOf (ofNat (d .year)) (ofNat (d .month)) (ofNat (d .day) ⊕ part))
 
 -- of the moment secs − 2^44 seconds after 1970 and so many nanoseconds
 unfoldable pub jdAt : ℕ → ℕ → Float

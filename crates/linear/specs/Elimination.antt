@@ -5,11 +5,11 @@ use mathlib.Core.Bool.{cond}
 use mathlib.Core.List.{List}
 use mathlib.Core.Option.{Option, none, some}
 use Prim.Native.Nat.{ℕ, _+_, _*_, _≤_}
-use lib.ListN.{length, getD, set, replicate}
-use lib.Ieee.{Float, nan, lt, ofBits, round}
+use lib.ListN.{length, set, replicate}
+use lib.Ieee.{Float, lt, ofBits, round}
 use Rattle.loops.specs.Loop.{for, rev, next, try}
 use Rattle.float.specs.Constant.{decimal}
-use Rattle.float.specs.Ops.{_⊕_, _⊖_, _⊗_, _⊘_, bits, absOf}
+use Rattle.float.specs.Ops.{_⊕_, _⊖_, _⊗_, _⊘_, bits, absOf, at}
 
 -- a pivot below 1e-12 in size is refused
 unfoldable pub leastPivot : Float
@@ -18,9 +18,6 @@ leastPivot = decimal 1 12
 pub leastPivot-bits : bits 0x3d719799812dea11 ≡ leastPivot
 unfolding leastPivot ofBits round
 leastPivot-bits = refl
-
-abbrev pub at : List Float → ℕ → Float
-at a k = getD a k nan
 
 -- where row r, column c of the augmented matrix is
 abbrev pub cellOf : ℕ → ℕ → ℕ → ℕ

@@ -11,8 +11,8 @@ use borrow.Author.Tests.{eq-eqb, ne-eqb, eqb-true, eqb-false}
 use lib.Dec.{eqb, lit<}
 use lib.Ieee.{Float, toUnsigned}
 use Rattle.laws.proofs.Numbers.{sub-step}
-use Rattle.float.specs.Ops.{_⊕_, _⊖_, _⊗_, _⊘_, floorOf, raised}
-use Rattle.monna.specs.Digits.{Base, num, digits, placed, clampOf, inverseOf, digitsAdded, times, valuation, gap}
+use Rattle.float.specs.Ops.{_⊕_, _⊖_, _⊗_, _⊘_, floorOf, raised, ofNat}
+use Rattle.monna.specs.Digits.{Base, digits, placed, clampOf, inverseOf, digitsAdded, times, valuation, gap}
 
 smaller : (p v : ℕ) → 2 ≤ p → suc v / p ≤ v
 smaller p v h = let l : suc v / p < suc v = div-lt-self (zero-lt-suc v) h in omega arith
@@ -34,7 +34,7 @@ fuel p (suc k) (suc l) (suc v) h a b =
 pub record Placing (p val : ℕ) (base res t : Float) : Type 0 where
   pub gives : placed p (digits p val val) base res ≡ t
 
-pub place : {p : ℕ} (val : ℕ) {base res t : Float} (q d : Float) → Base p → 0 < val → q ≡ num p → d ≡ num (val % p) → Placing p val base res t
+pub place : {p : ℕ} (val : ℕ) {base res t : Float} (q d : Float) → Base p → 0 < val → q ≡ ofNat p → d ≡ ofNat (val % p) → Placing p val base res t
     → Placing p (val / p) (base ⊘ q) (res ⊕ d ⊗ base) t
 unfolding digits placed
 place zero q d b h e f l = absurd (omega arith)
@@ -70,7 +70,7 @@ pub take-start : (n p : ℕ) (x : Float) {y : Float} → y ≡ clampOf x → Tak
 unfolding inverseOf
 take-start n p x e = record { gives = rw (e, sub-zero n) }
 
-pub take-one : {n i p : ℕ} {x : Float} {factor val t : ℕ} (q w f : Float) (d : ℕ) → i < n → q ≡ num p → w ≡ floorOf (x ⊗ q) → d ≡ toUnsigned 64 w → f ≡ num d → Taking (n - i) p x factor val t
+pub take-one : {n i p : ℕ} {x : Float} {factor val t : ℕ} (q w f : Float) (d : ℕ) → i < n → q ≡ ofNat p → w ≡ floorOf (x ⊗ q) → d ≡ toUnsigned 64 w → f ≡ ofNat d → Taking (n - i) p x factor val t
     → Taking (n - (i + 1)) p (x ⊗ q ⊖ f) (factor * p) (val + d % p * factor) t
 unfolding digitsAdded
 take-one {n = n} {i = i} q w f d h e v g k l = record { gives = rw (k, g, v, e) (rw (sub-step i n h) at (l .gives)) }

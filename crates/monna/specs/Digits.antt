@@ -4,11 +4,10 @@ use mathlib.Core.Bool.{Bool, true, false, cond, _&&_}
 use mathlib.Core.List.{List, [], _∷_, _++_}
 use Prim.Native.Nat.{ℕ, zero, suc, _+_, _-_, _*_, _/_, _%_, _≤_}
 use lib.Dec.{eqb, leb}
-use lib.IntN.{pos}
 use lib.ListN.{getD}
-use lib.Ieee.{Float, nan, binary64, ofInt, toUnsigned, lt, ofBits, round}
+use lib.Ieee.{Float, nan, toUnsigned, lt, ofBits, round}
 use Rattle.float.specs.Constant.{decimal}
-use Rattle.float.specs.Ops.{_⊕_, _⊖_, _⊗_, _⊘_, bits, one, minOf, absOf, floorOf, raised}
+use Rattle.float.specs.Ops.{_⊕_, _⊖_, _⊗_, _⊘_, bits, one, minOf, absOf, floorOf, raised, ofNat}
 
 -- a base that is not refused, as a test and as a fact
 abbrev pub isBase : ℕ → Bool
@@ -17,10 +16,6 @@ isBase p = leb 2 p && leb p 7
 pub record Base (p : ℕ) : Type 0 where
   pub least : 2 ≤ p
   pub greatest : p ≤ 7
-
--- a whole number
-abbrev pub num : ℕ → Float
-num n = ofInt binary64 (pos n)
 
 -- ---- the Monna map (A. F. Monna, 1952): the digits of a whole number, lowest first, written behind the point
 
@@ -33,10 +28,10 @@ digits p (suc k) (suc v) = suc v % p ∷ digits p k (suc v / p)
 -- res + d₀×base + d₁×(base/p) + .., each digit in turn
 unfoldable pub placed : ℕ → List ℕ → Float → Float → Float
 placed p [] base res = res
-placed p (d ∷ ds) base res = placed p ds (base ⊘ num p) (res ⊕ num d ⊗ base)
+placed p (d ∷ ds) base res = placed p ds (base ⊘ ofNat p) (res ⊕ ofNat d ⊗ base)
 
 unfoldable pub monnaOf : ℕ → ℕ → Float
-monnaOf v p = placed p (digits p v v) (one ⊘ num p) (bits 0)
+monnaOf v p = placed p (digits p v v) (one ⊘ ofNat p) (bits 0)
 
 -- ---- its inverse: n digits of x behind the point, the first of them lowest
 
@@ -53,12 +48,12 @@ clampOf x = cond (lt x (bits 0)) (bits 0) (cond (lt (one ⊖ margin) x) (one ⊖
 
 -- a digit: floor(x×p), cast to u64, which takes NaN to 0
 abbrev pub digitOf : ℕ → Float → ℕ
-digitOf p x = toUnsigned 64 (floorOf (x ⊗ num p))
+digitOf p x = toUnsigned 64 (floorOf (x ⊗ ofNat p))
 
 -- n more digits of x, modulo p and worth factor, factor×p, .., added to val
 unfoldable pub digitsAdded : ℕ → ℕ → Float → ℕ → ℕ → ℕ
 digitsAdded zero p x factor val = val
-digitsAdded (suc n) p x factor val = digitsAdded n p (x ⊗ num p ⊖ num (digitOf p x)) (factor * p) (val + digitOf p x % p * factor)
+digitsAdded (suc n) p x factor val = digitsAdded n p (x ⊗ ofNat p ⊖ ofNat (digitOf p x)) (factor * p) (val + digitOf p x % p * factor)
 
 unfoldable pub inverseOf : Float → ℕ → ℕ → ℕ
 inverseOf x p n = digitsAdded n p (clampOf x) 1 0
@@ -79,7 +74,7 @@ abbrev pub gap : ℕ → ℕ → ℕ
 gap a b = a - b + (b - a)
 
 unfoldable pub distanceOf : ℕ → ℕ → ℕ → Float
-distanceOf a b p = cond (eqb a b) (bits 0) (one ⊘ raised (num p) (valuation p (gap a b)) one)
+distanceOf a b p = cond (eqb a b) (bits 0) (one ⊘ raised (ofNat p) (valuation p (gap a b)) one)
 
 -- ---- a coordinate's place in [0, 1], and those of three coordinates by four bases
 

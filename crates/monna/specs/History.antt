@@ -5,16 +5,13 @@ use mathlib.Core.Bool.{cond}
 use mathlib.Core.List.{List, [], _∷_, _++_}
 use Prim.Native.Nat.{ℕ, zero, suc}
 use lib.Dec.{eqb}
-use lib.ListN.{length, getD}
-use lib.Ieee.{Float, nan, lt, ofBits, round}
+use lib.ListN.{length}
+use lib.Ieee.{Float, lt, ofBits, round}
 use Rattle.float.specs.Constant.{decimal}
-use Rattle.float.specs.Ops.{_⊕_, _⊖_, _⊗_, _⊘_, bits}
+use Rattle.float.specs.Ops.{_⊕_, _⊖_, _⊗_, _⊘_, bits, at}
 use Rattle.roots.specs.Root.{sqrtOf}
 use Rattle.loops.specs.Loop.{for}
 use Rattle.monna.specs.Digits.{distanceOf}
-
-abbrev pub at : List Float → ℕ → Float
-at x i = getD x i nan
 
 -- a distance above 1e-9 counts
 unfoldable pub leastDistance : Float

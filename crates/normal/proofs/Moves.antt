@@ -8,9 +8,10 @@ use native.Mathlib.Omega.{arith}
 use lib.ListN.{length, drop}
 use lib.Seq.{drop-length}
 use lib.Ieee.{Float}
+use Rattle.float.specs.Ops.{at}
 use Rattle.loops.specs.Loop.{isSome}
 use Rattle.refusal.specs.Numbers as refusal
-use Rattle.linear.specs.Elimination.{at, solutionOf}
+use Rattle.linear.specs.Elimination.{solutionOf}
 use Rattle.linear.specs.Answer.{Solves, answerOf, outOf}
 use Rattle.linear.specs.declared.Solution.{Solution}
 use Rattle.linear.specs.declared.Solution.the-variants.{Found, Refused}

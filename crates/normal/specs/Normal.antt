@@ -5,9 +5,8 @@ use mathlib.Core.List.{List}
 use Prim.Native.Nat.{ℕ, _+_, _*_, _≤_}
 use lib.ListN.{length, set, replicate}
 use lib.Ieee.{Float}
-use Rattle.float.specs.Ops.{_⊕_, _⊗_, bits}
+use Rattle.float.specs.Ops.{_⊕_, _⊗_, bits, at}
 use Rattle.loops.specs.Loop.{for}
-use Rattle.linear.specs.Elimination.{at}
 
 -- a flat matrix of m rows and n columns
 pub record Grid (m n : ℕ) (a : List Float) : Type 0 where

@@ -9,11 +9,11 @@ use lib.ListN.{set, replicate}
 use lib.Ieee.{Float, lt, ofBits, round}
 use Rattle.refusal.specs.Numbers as refusal
 use Rattle.float.specs.Constant.{decimal}
-use Rattle.float.specs.Ops.{_⊕_, _⊖_, _⊗_, _⊘_, bits, one, maxOf, minOf, absOf}
+use Rattle.float.specs.Ops.{_⊕_, _⊖_, _⊗_, _⊘_, bits, one, maxOf, minOf, absOf, at}
 use Rattle.float.specs.Trig.{pi}
 use Rattle.solution.specs.Range.{leastRadius, mostRadius}
 use Rattle.loops.specs.Loop.{for}
-use Rattle.linear.specs.Elimination.{at, solutionOf}
+use Rattle.linear.specs.Elimination.{solutionOf}
 use Rattle.roots.specs.Root.{sqrtOf}
 use Rattle.normal.specs.Normal.{jtjOf, jtrOf}
 

@@ -4,8 +4,9 @@
 ghost use mathlib.Core.Path.{_≡_};
 ghost use Prim.Native.Nat.{_+_, _*_, _<_, _≤_};
 ghost use lib.ListN.{length};
+ghost use Rattle.float.specs.Ops.{at};
 ghost use Rattle.loops.specs.Loop.{for};
-ghost use Rattle.linear.specs.Elimination.{at, solutionOf};
+ghost use Rattle.linear.specs.Elimination.{solutionOf};
 ghost use Rattle.normal.specs.Normal.{Grid, tableEntry, addProduct, addProducts, addRow, addRight, addRights, jtjOf, jtrOf};
 ghost use Rattle.normal.specs.Step.{
   dampCell,

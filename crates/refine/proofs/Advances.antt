@@ -8,8 +8,8 @@ use native.Mathlib.Omega.{arith}
 use lib.ListN.{length, take, drop}
 use lib.Seq.{take-at, drop-at, length-take-le}
 use lib.Ieee.{Float}
+use Rattle.float.specs.Ops.{at}
 use Rattle.loops.specs.Loop.{try}
-use Rattle.linear.specs.Elimination.{at}
 use Rattle.orbit.specs.declared.doppler.Station.{Station}
 use Rattle.residuals.specs.Samples.{Passes, Samples}
 use Rattle.residuals.specs.Residuals.{placeOf, rowsOf, residuals}

@@ -10,9 +10,9 @@ use native.Mathlib.Omega.{arith}
 use lib.ListN.{length, length-set}
 use lib.Seq.{getD-set-same, getD-set-other}
 use lib.Ieee.{Float, nan}
+use Rattle.float.specs.Ops.{at}
 use Rattle.loops.specs.Loop.{for, next, tried, try}
 use Rattle.loops.proofs.Laws.{for-ind}
-use Rattle.linear.specs.Elimination.{at}
 use Rattle.residuals.specs.Answers.{Filled}
 use Rattle.refine.specs.Jacobian.{perturbedOf, quotient, isFarSet, entryOf, anyFar, putEntry, putColumn, columnOf}
 use Rattle.normal.proofs.Places.{place-below, apart}

@@ -8,9 +8,8 @@ use lib.Dec.{ltb, eqb}
 use lib.ListN.{set}
 use lib.Ieee.{Float, ofBits, round}
 use Rattle.float.specs.Constant.{decimal}
-use Rattle.float.specs.Ops.{_⊕_, _⊖_, _⊘_, bits}
+use Rattle.float.specs.Ops.{_⊕_, _⊖_, _⊘_, bits, at}
 use Rattle.loops.specs.Loop.{for}
-use Rattle.linear.specs.Elimination.{at}
 
 -- how far a parameter is moved: 10 m for a, 1e-6 for the three angles and for df2, 1e-3 s for dt, 1e-2 Hz for df0, 1e-4 for df1
 unfoldable pub aEps : Float

@@ -10,7 +10,7 @@ use native.Mathlib.Omega.{arith}
 use lib.ListN.{length, getD, take, drop, set, drop-of-length-le}
 use lib.Seq.{drop-cons, take-suc-set, length-take-le, getD-take}
 use lib.Ieee.{Float, nan}
-use Rattle.float.specs.Ops.{_⊕_, _⊖_, _⊗_, bits}
+use Rattle.float.specs.Ops.{_⊕_, _⊖_, _⊗_, bits, at}
 use Rattle.pass_set.specs.PassSet.{total}
 use Rattle.float.specs.declared.trig.SinCos.{SinCos}
 use Rattle.moment.specs.Time.{overOf, tauOf}
@@ -23,7 +23,7 @@ use Rattle.orbit.specs.declared.doppler.Station.{Station}
 use Rattle.orbit.specs.declared.doppler.Prediction.{Prediction}
 use Rattle.orbit.specs.declared.doppler.Prediction.the-variants.{Frequency, Refused}
 use Rattle.residuals.specs.Samples.{Passes}
-use Rattle.residuals.specs.Residuals.{_then_, at, elementsOf, dtOf, passBias, shiftOf, predictionOf, residual, samples, passes, dtWeight-bits, df1Weight-bits, df2Weight-bits, dtPenalties, driftPenalties, penalties, rowsOf, residuals, sumSquares, sumOf}
+use Rattle.residuals.specs.Residuals.{_then_, elementsOf, dtOf, passBias, shiftOf, predictionOf, residual, samples, passes, dtWeight-bits, df1Weight-bits, df2Weight-bits, dtPenalties, driftPenalties, penalties, rowsOf, residuals, sumSquares, sumOf}
 use Rattle.residuals.specs.Answers.{filled, filledRefusal, Filled, Summed}
 use Rattle.residuals.specs.declared.Bias.{Bias}
 use Rattle.residuals.specs.declared.Sum.{Sum}

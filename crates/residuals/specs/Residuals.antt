@@ -7,9 +7,9 @@ use mathlib.Core.List.{List, [], _∷_, _++_}
 use mathlib.Core.Option.{Option, none, some}
 use Prim.Native.Nat.{ℕ, zero, suc, _+_, _*_}
 use lib.ListN.{length, getD}
-use lib.Ieee.{Float, nan, neg, ofBits, round}
+use lib.Ieee.{Float, neg, ofBits, round}
 use Rattle.float.specs.Constant.{decimal}
-use Rattle.float.specs.Ops.{_⊕_, _⊖_, _⊗_, bits}
+use Rattle.float.specs.Ops.{_⊕_, _⊖_, _⊗_, bits, at}
 use Rattle.moment.specs.Time.{tauMillisOf}
 use Rattle.orbit.specs.Doppler.{predictedOf, biasOf}
 use Rattle.orbit.specs.declared.Elements.{Elements}
@@ -19,9 +19,6 @@ use Rattle.orbit.specs.declared.doppler.Prediction.the-variants.{Frequency, Ref
 use Rattle.residuals.specs.Samples.{Passes, nanosAt, rotationAt}
 use Rattle.residuals.specs.declared.Bias.{Bias}
 use Rattle.residuals.specs.declared.Bias.the-variants.{Constant, Polynomial}
-
-abbrev pub at : List Float → ℕ → Float
-at x k = getD x k nan
 
 -- ---- a set's parts
 

@@ -5,10 +5,9 @@ use Prim.Native.Nat.{ℕ, _+_, _*_, _/_, _%_}
 use lib.ListN.{replicate}
 use lib.Ieee.{Float, lt}
 use Rattle.float.specs.Constant.{decimal}
-use Rattle.float.specs.Ops.{_⊗_, bits, radiansOf, largest}
+use Rattle.float.specs.Ops.{_⊗_, bits, radiansOf, largest, ofNat}
 use Rattle.loops.specs.Loop.{for}
 use Rattle.monna.specs.Rng.{drawn}
-use Rattle.monna.specs.Digits.{num}
 use Rattle.monna.specs.declared.rng.SimpleRng.{SimpleRng}
 use Rattle.search.specs.Step.{keptOf, stepOf}
 use Rattle.search.specs.declared.Best.{Best}
@@ -44,7 +43,7 @@ trajectoryOf sum raan u g = finishedOf sum (for 0 15 (stepOf sum) (openingOf raa
 -- ---- the starts: j / 12 and j % 12 times 30 degrees, and the generator after 75×j draws from 1337
 
 unfoldable pub gridOf : ℕ → Float
-gridOf k = num k ⊗ radiansOf (decimal 30 0)
+gridOf k = ofNat k ⊗ radiansOf (decimal 30 0)
 
 unfoldable pub afterDraws : ℕ → SimpleRng → SimpleRng
 afterDraws n g = record { state = drawn n (g .state) }

@@ -7,11 +7,11 @@ use Prim.Native.Nat.{ℕ, zero, suc, _+_, _%_, _^_}
 use lib.ListN.{length, set, take}
 use lib.Ieee.{Float, toUnsigned, lt, ne, neg}
 use Rattle.float.specs.Constant.{decimal}
-use Rattle.float.specs.Ops.{_⊕_, _⊖_, _⊗_, _⊘_, bits, one, two, absOf, signumOf, remEuclidOf, raised}
+use Rattle.float.specs.Ops.{_⊕_, _⊖_, _⊗_, _⊘_, bits, one, two, absOf, signumOf, remEuclidOf, raised, ofNat}
 use Rattle.loops.specs.Loop.{for}
 use Rattle.float.specs.Trig.{pi}
 use Rattle.monna.specs.Rng.{drawOf, gaussianOf}
-use Rattle.monna.specs.Digits.{num, monnaOf, inverseOf}
+use Rattle.monna.specs.Digits.{monnaOf, inverseOf}
 use Rattle.monna.specs.History.{differenceAt}
 use Rattle.approach.specs.Sums.{eps}
 use Rattle.search.specs.declared.Angles.{Angles}
@@ -84,7 +84,7 @@ primeOf k = primeAt (k % 4)
 
 -- a draw times p^4, cut
 unfoldable pub perturbationOf : Float → ℕ → ℕ
-perturbationOf uniform p = toUnsigned 64 (uniform ⊗ raised (num p) 4 one)
+perturbationOf uniform p = toUnsigned 64 (uniform ⊗ raised (ofNat p) 4 one)
 
 unfoldable pub scrambledOf : Float → ℕ → ℕ → Float
 scrambledOf angle p n = remEuclidOf (monnaOf ((inverseOf (angle ⊘ turn) p 16 + n) % 2 ^ 64) p ⊗ two ⊗ pi) turn

@@ -8,7 +8,7 @@ use lib.Dec.{lit<, lit≤}
 use lib.IntN.{pos, negsuc}
 use lib.Ieee.{Float, nan, add, mul, div, rem, lt, round, ofInt, ofBits}
 use Rattle.text.specs.Text.{bytes, code}
-use Rattle.float.specs.Ops.{_⊕_, bits, remEuclidOf, degreesOf, degreesPerRadian}
+use Rattle.float.specs.Ops.{_⊕_, bits, remEuclidOf, degreesOf, degreesPerRadian, ofNat}
 use Rattle.float.specs.Trig.{full, pi}
 use Rattle.roots.specs.Root.{sqrtOf}
 use Rattle.decimal.specs.Fixed.{nearestUnits, fixedText, cellAt}
@@ -19,7 +19,7 @@ use Rattle.moment.specs.Calendar.{leap, monthLength, monthsLength, dateOf, ordi
 use Rattle.moment.specs.declared.Moment.{Moment}
 use Rattle.moment.specs.declared.calendar.Date.{Date}
 use Rattle.moment.proofs.Days.{from-march, from-january}
-use Rattle.tle.specs.Elements.{fullCircle, printedDegrees, secondsPerDay, meanMotionOf, secondsPerHour, secondsPerMinute, nanosPerSecond, ofNat, epochFraction, epochAt, lineEpoch}
+use Rattle.tle.specs.Elements.{fullCircle, printedDegrees, secondsPerDay, meanMotionOf, secondsPerHour, secondsPerMinute, nanosPerSecond, epochFraction, epochAt, lineEpoch}
 use Rattle.solution.specs.Range.{leastRadius, mostRadius}
 use Rattle.tle.specs.Answer.{angleFits, radiusFits, inclinationFits, orbitFits, visible, nameFits, linesRefusal}
 use Rattle.tle.specs.Example.{epoch, exampleOrbit, first-line, second-line}

@@ -11,7 +11,7 @@ use lib.Ieee.{Float, nan, inf, fin, binary64, up, down, lt, add, sum, mul, div, 
 use lib.Ieee.Fits.{down-pos}
 use lib.Ieee.Positive.{num, den, first-pos}
 use borrow.Author.Tests.{lt-ltb, le-ltb, ltb-false, ne-eqb}
-use Rattle.float.specs.Ops.{_⊕_, _⊗_, _⊘_, _⊛_, bits, remEuclidOf, degreesOf}
+use Rattle.float.specs.Ops.{_⊕_, _⊗_, _⊘_, _⊛_, bits, remEuclidOf, degreesOf, ofNat}
 use Rattle.float.specs.Trig.{isFinite, full-bits}
 use Rattle.float.proofs.Rounding.{Within, round-within}
 use Rattle.bounds.proofs.Bounds.{nat-up, mul-up, add-up, Between, mul-between}
@@ -20,7 +20,7 @@ use Rattle.roots.proofs.Whole.{isqrt-whole}
 use Rattle.decimal.specs.Fixed.{within, printable}
 use Rattle.decimal.proofs.Printable.{yes, between}
 use Rattle.decimal.proofs.Theorems.{decimal-le}
-use Rattle.tle.specs.Elements.{ofNat, fullCircle-bits, printedDegrees, secondsPerDay-bits, meanMotionOf, secondsPerHour-bits, secondsPerMinute-bits, nanosPerSecond-bits, epochFraction}
+use Rattle.tle.specs.Elements.{fullCircle-bits, printedDegrees, secondsPerDay-bits, meanMotionOf, secondsPerHour-bits, secondsPerMinute-bits, nanosPerSecond-bits, epochFraction}
 use Rattle.orbit.specs.Orbit.{mu-bits}
 use Rattle.solution.specs.Range.{leastRadius, leastRadius-bits, mostRadius, mostRadius-bits}
 use Rattle.tle.specs.Answer.{fromTo}

@@ -2,10 +2,9 @@
 -- operation, in the Rust's order.
 use Prim.Native.Nat.{ℕ, _-_, _/_, _%_}
 use mathlib.Core.Path.{_≡_, refl}
-use lib.IntN.{pos}
-use lib.Ieee.{Float, binary64, ofInt, ofBits, round}
+use lib.Ieee.{Float, ofBits, round}
 use Rattle.float.specs.Constant.{decimal}
-use Rattle.float.specs.Ops.{_⊕_, _⊗_, _⊘_, bits, remEuclidOf, degreesOf}
+use Rattle.float.specs.Ops.{_⊕_, _⊗_, _⊘_, bits, remEuclidOf, degreesOf, ofNat}
 use Rattle.float.specs.Trig.{full}
 use Rattle.roots.specs.Root.{sqrtOf}
 use Rattle.moment.specs.Origin.{perDay, march1956}
@@ -63,10 +62,6 @@ nanosPerSecond = decimal 1000000000 0
 pub nanosPerSecond-bits : bits 0x41cdcd6500000000 ≡ nanosPerSecond
 unfolding nanosPerSecond ofBits round
 nanosPerSecond-bits = refl
-
--- a whole number
-abbrev pub ofNat : ℕ → Float
-ofNat n = ofInt binary64 (pos n)
 
 -- the part of a day after so many seconds and nanoseconds
 unfoldable pub epochFraction : ℕ → ℕ → Float

@@ -4,8 +4,8 @@ use mathlib.Core.Bool.{true, false, cond}
 use mathlib.Core.List.{List}
 use Prim.Native.Nat.{ℕ}
 use lib.Ieee.{Float, lt}
-use Rattle.float.specs.Ops.{absOf}
-use Rattle.linear.specs.Elimination.{at, cellOf, largerPivot}
+use Rattle.float.specs.Ops.{absOf, at}
+use Rattle.linear.specs.Elimination.{cellOf, largerPivot}
 use borrow.Author.Needs.{needs}
 use Rattle.linear.proofs.larger_pivot.Statement.{statement}
 use Rattle.linear.proofs.larger_pivot.Tie as tie

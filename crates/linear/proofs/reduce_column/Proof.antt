@@ -1,5 +1,5 @@
 -- `reduce_column` meets its contract. Assumes nothing.
-use Rattle.linear.specs.Elimination.{leastPivot-bits, at, cellOf, pivotRow, swapRows, eliminateBelow, reduceColumn}
+use Rattle.linear.specs.Elimination.{leastPivot-bits, cellOf, pivotRow, swapRows, eliminateBelow, reduceColumn}
 use borrow.Author.Needs.{needs}
 use Rattle.linear.proofs.reduce_column.Statement.{statement}
 use Rattle.linear.proofs.reduce_column.Tie as tie
@@ -7,7 +7,7 @@ use Rattle.loops.specs.Loop.{Made}
 use mathlib.Core.Path.{_≡_}
 use mathlib.Core.Bool.{true, false, cond}
 use mathlib.Core.Option.{none, some}
-use Rattle.float.specs.Ops.{bits, absOf}
+use Rattle.float.specs.Ops.{bits, absOf, at}
 use mathlib.Core.List.{List}
 use lib.Ieee.{Float, lt}
 use Prim.Native.Nat.{ℕ}

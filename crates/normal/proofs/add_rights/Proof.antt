@@ -1,8 +1,8 @@
 -- `add_rights` meets its contract. Assumes nothing.
 use Prim.Native.Nat.{_-_, _≤_}
+use Rattle.float.specs.Ops.{at}
 use Rattle.loops.proofs.Laws.{Left, loops}
 use Rattle.normal.specs.Normal.{addRight, addRights, tableEntry}
-use Rattle.linear.specs.Elimination.{at}
 use lib.ListN.{length}
 use mathlib.Core.Path.{_≡_}
 use Rattle.normal.proofs.add_rights.Statement.{statement}

@@ -1,8 +1,8 @@
 -- `sum_jt_r` meets its contract. Assumes nothing.
 use Prim.Native.Nat.{_-_, _≤_}
+use Rattle.float.specs.Ops.{at}
 use Rattle.loops.proofs.Laws.{Left, begins, loops}
 use Rattle.normal.specs.Normal.{addRights, jtrOf, tableEntry}
-use Rattle.linear.specs.Elimination.{at}
 use borrow.Author.Needs.{needs}
 use lib.ListN.{length}
 use mathlib.Core.Path.{_≡_}

@@ -5,14 +5,14 @@ use mathlib.Core.Path.{ap}
 use Prim.Native.Nat.{_<_}
 use native.Mathlib.Nat.{div-lt-self}
 use borrow.Author.Tests.{eq-eqb, ne-eqb}
-use Rattle.float.specs.Ops.{_⊘_, one, one-bits, raised}
-use Rattle.monna.specs.Digits.{num, valuation, gap, distanceOf}
+use Rattle.float.specs.Ops.{_⊘_, one, one-bits, raised, ofNat}
+use Rattle.monna.specs.Digits.{valuation, gap, distanceOf}
 use Rattle.monna.proofs.Digits.{Counting, count, all-counted, still, gap-pos}
 use Rattle.monna.proofs.inner.distance_value.Statement.{statement}
 use Rattle.monna.proofs.inner.distance_value.Tie as tie
 
 abbrev Inv-loop : tie.InvT-loop
-Inv-loop a b p q diff₀ power₀ diff power = (0 < diff) × Counting p diff q power (raised (num p) (valuation p (gap a b)) one)
+Inv-loop a b p q diff₀ power₀ diff power = (0 < diff) × Counting p diff q power (raised (ofNat p) (valuation p (gap a b)) one)
 
 abbrev μ-loop : tie.MeasureT-loop
 μ-loop a b p q diff₀ power₀ diff power = diff

@@ -1,11 +1,11 @@
 use mathlib.Core.Path.{_≡_}
 use Prim.Native.Nat.{ℕ, _-_, _/_, _%_}
 use lib.Ieee.{Float}
-use Rattle.float.specs.Ops.{_⊕_}
+use Rattle.float.specs.Ops.{_⊕_, ofNat}
 use Rattle.moment.specs.Origin.{march1956}
 use Rattle.moment.specs.Calendar.{dateOf, ordinalOf}
 use Rattle.moment.specs.declared.calendar.Date.{Date}
-use Rattle.tle.specs.Elements.{ofNat, epochFraction, epochAt}
+use Rattle.tle.specs.Elements.{epochFraction, epochAt}
 use Rattle.tle.specs.declared.elements.Epoch.{Epoch}
 use Rattle.tle.proofs.Dates.{in-year}
 use borrow.Author.Needs.{needs}
