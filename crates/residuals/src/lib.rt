@@ -9,6 +9,7 @@ ghost use lib.ListN.{length, getD, set, take};
 ghost use lib.IntN.{pos};
 ghost use lib.Ieee.{neg};
 ghost use Rattle.float.specs.Ops.{bits};
+ghost use Rattle.moment.specs.Origin.{count1957, count2057};
 ghost use Rattle.moment.specs.Sample.{timeInRange, Timed};
 ghost use Rattle.moment.specs.Time.{nanosOf, tauMillisOf, Sound};
 ghost use Rattle.orbit.specs.Doppler.{sightOf};
@@ -141,7 +142,7 @@ fn instant(n: u64) -> Instant
 
 // The Earth's rotation at a sample's moment.
 fn rotation_at(n: u64) -> SinCos
-    requires { ⌜ (3589772800000000000 ≤ n) × (n < 6745532800000000000) ⌝ }
+    requires { ⌜ (count1957 ≤ n) × (n < count2057) ⌝ }
     ensures { λ r. ⌜ r ≡ rotationAt n ⌝ }
 {
     frame::rotation(frame::jd_at(instant(n)))
