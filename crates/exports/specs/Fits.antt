@@ -9,5 +9,5 @@ use Rattle.fit.specs.declared.Fit.{Fit}
 abbrev pub fitted : SolvedOrbit → ℕ → Float → ℕ → Fit
 fitted orbit trials best r = record { refusal = r; orbit = orbit; trials = trials; best = best }
 
-abbrev pub FitsTo : Arguments → (o o′ : Outputs) (scratch scratch′ : List Float) → SolvedOrbit → ℕ → Float → ℕ → Type 0
+abbrev pub FitsTo : (x : Arguments) (o o′ : Outputs) (scratch scratch′ : List Float) (orbit : SolvedOrbit) (trials : ℕ) (best : Float) (r : ℕ) → Type 0
 FitsTo x o o′ scratch scratch′ orbit trials best r = Fits x o o′ scratch scratch′ (fitted orbit trials best r)
