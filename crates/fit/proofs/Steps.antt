@@ -6,22 +6,23 @@ use Prim.Native.Nat.{ℕ, _+_, _*_, _≤_, _<_}
 use native.Mathlib.Nat.{le-trans, mul-le-mul, mul-le-mul-left}
 use native.Mathlib.Omega.{arith}
 use lib.Dec.{leb}
-use lib.IntN.{ℤ}
+use lib.IntN.{ℤ, pos}
 use lib.ListN.{length, getD, take}
-use lib.Seq.{length-take-le}
+use lib.Seq.{length-take-le, getD-take}
 use lib.Ieee.{Float}
 use Rattle.refusal.specs.Numbers as refusal
 use Rattle.refusal.specs.Order.{first}
-use Rattle.moment.specs.Sample.{Timed}
+use Rattle.moment.specs.Sample.{Timed, instantAt}
 use Rattle.moment.proofs.Samples.{within-sound}
+use Rattle.frame.specs.declared.Vec3.{Vec3}
 use Rattle.orbit.specs.declared.Elements.{Elements}
 use Rattle.orbit.specs.declared.doppler.Station.{Station}
-use Rattle.pass_set.specs.PassSet.{startOf}
+use Rattle.pass_set.specs.PassSet.{startOf, total}
 use Rattle.pass_set.proofs.Laws.{start-zero, start-next, start-fits}
 use Rattle.search.specs.Sum.{fixedSum}
 use Rattle.search.specs.Search.{searchOf}
 use Rattle.search.specs.declared.Found.{Found}
-use Rattle.residuals.specs.Samples.{passesOf, countsAt, DatedTimes, Rotations}
+use Rattle.residuals.specs.Samples.{passesOf, countsAt, stationOf, DatedTimes, Rotations}
 use Rattle.residuals.specs.Residuals.{rowsOf, placeOf, elementsOf, penalisedSum}
 use Rattle.residuals.proofs.Samples.{counts-length, counts-dated}
 use Rattle.refine.specs.Advance.{advanceOf}
@@ -127,6 +128,13 @@ module _ {g : Station} {counts : List ℕ} {times : List ℤ} {freqs : List Floa
 
       deep : {p : ℕ} → 2 ≤ p → 8 ≤ 5 + 4 * p
       deep k = omega arith
+
+-- their first sample is the fit's, so that the fit's station is theirs
+pub first-station : (counts : List ℕ) (times : List ℤ) (freqs : List Float) (center : Float) (rec : Vec3) (n : ℕ) → n ≡ total (take 2 counts) → 0 < n
+    → firstTwo (observed counts times freqs (stationOf times center rec)) ≡ observed (take 2 counts) (take n times) (take n freqs) (stationOf (take n times) center rec)
+unfolding firstTwo
+first-station counts times freqs center rec n e h =
+    rw (← e) (ap (λ (t : ℤ). observed (take 2 counts) (take n times) (take n freqs) (record { epoch = instantAt t; «center_freq» = center; «rec_ecef» = rec })) (sym (getD-take n times 0 (pos 0) h)))
 
 pub first-ends : (a i : Float) (x : Observations) (n : ℕ) (s : State) → n ≡ startOf (x .counts) 2
     → Ends (refinedTwo a i (observed (take 2 (x .counts)) (take n (x .times)) (take n (x .freqs)) (x .station))) s → Ends (firstBook a i x) s

@@ -13,13 +13,14 @@ use Rattle.float.specs.Ops.{bits, absOf, at}
 use Rattle.moment.specs.Sample.{momentAt}
 use Rattle.frame.specs.declared.Vec3.{Vec3}
 use Rattle.solution.specs.declared.SolvedOrbit.{SolvedOrbit}
+use Rattle.residuals.specs.Samples.{stationOf}
 use Rattle.book.specs.Book.{Search, Book, farEnding}
 use Rattle.book.specs.Demand.{largestSum}
 use Rattle.book.specs.declared.Ending.{Ending}
 use Rattle.arguments.specs.Passes.{nonEmpty, centerOf}
 use Rattle.arguments.specs.Refusals as given
 use Rattle.arguments.specs.Refusals.{Room, inputRefusals, enough}
-use Rattle.fit.specs.Fit.{Observations, observed, stationIn, radius, firstBook, trialBook}
+use Rattle.fit.specs.Fit.{Observations, observed, radius, firstBook, trialBook}
 use Rattle.fit.specs.declared.Fit.{Fit}
 
 -- the arguments of a call, in its order
@@ -38,7 +39,7 @@ arguments counts times freqs centers rec a i =
 
 -- without the empty passes; the initial semi-major axis is checked and never used
 abbrev pub observations : Arguments → Observations
-observations x = observed (nonEmpty (x .counts)) (x .times) (x .freqs) (stationIn (x .times) (centerOf (x .counts) (x .centers)) (x .rec))
+observations x = observed (nonEmpty (x .counts)) (x .times) (x .freqs) (stationOf (x .times) (centerOf (x .counts) (x .centers)) (x .rec))
 
 -- how many passes are not empty: P
 abbrev pub passCount : Arguments → ℕ

@@ -4,11 +4,9 @@ use mathlib.Core.Bool.{Bool, true, false}
 use mathlib.Core.List.{List, [], _∷_}
 use Prim.Native.Nat.{ℕ}
 use lib.Dec.{leb}
-use lib.IntN.{ℤ, pos}
-use lib.ListN.{length, getD, take}
+use lib.IntN.{ℤ}
+use lib.ListN.{length, take}
 use lib.Ieee.{Float}
-use Rattle.moment.specs.Sample.{instantAt}
-use Rattle.frame.specs.declared.Vec3.{Vec3}
 use Rattle.orbit.specs.declared.Elements.{Elements}
 use Rattle.pass_set.specs.PassSet.{total}
 use Rattle.search.specs.Sum.{fixedSum}
@@ -32,9 +30,6 @@ pub record Observations : Type 0 where
 
 abbrev pub observed : List ℕ → List ℤ → List Float → Station → Observations
 observed counts times freqs g = record { counts = counts; times = times; freqs = freqs; station = g }
-
-abbrev pub stationIn : List ℤ → Float → Vec3 → Station
-stationIn times center rec = record { epoch = instantAt (getD times 0 (pos 0)); «center_freq» = center; «rec_ecef» = rec }
 
 -- as the residuals take them
 abbrev pub observedPasses : Observations → Passes

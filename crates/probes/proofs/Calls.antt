@@ -23,7 +23,7 @@ use Rattle.approach.specs.Turns.{SoundSet}
 use Rattle.float.specs.Ops.{bits}
 use Rattle.search.specs.declared.Found.{Found}
 use Rattle.orbit.specs.declared.doppler.Station.{Station}
-use Rattle.residuals.specs.Samples.{Passes, countsAt, passesOf, DatedTimes, Rotations, Samples}
+use Rattle.residuals.specs.Samples.{Passes, countsAt, passesOf, firstEpoch, DatedTimes, Rotations, Samples}
 use Rattle.residuals.specs.Residuals.{placeOf, rowsOf, penalisedSum, each, sumOf}
 use Rattle.residuals.specs.Answers as residuals
 use Rattle.residuals.specs.Residuals as residuals-of
@@ -41,7 +41,7 @@ use Rattle.trials.specs.Trials as trials
 use Rattle.trials.specs.declared.State.{State}
 use Rattle.trials.specs.declared.Tried as trials-tried
 use Rattle.trials.proofs.Laws.{kept-set}
-use Rattle.probes.specs.Call.{probeRefusal, cleared, firstEpoch, Searches, SetAccepted, Prepared, Sums, bookWith, bookAfter, enoughOf, trialOf, isRunning, trialRefusal, zeroState, stateUnless, TrialCall}
+use Rattle.probes.specs.Call.{probeRefusal, cleared, Searches, SetAccepted, Prepared, Sums, bookWith, bookAfter, enoughOf, trialOf, isRunning, trialRefusal, zeroState, stateUnless, TrialCall}
 use Rattle.probes.specs.declared.Tried.{Tried}
 
 -- ---- no refusal before the work

@@ -6,20 +6,19 @@ use mathlib.Core.List.{List, [], _∷_, _++_}
 use mathlib.Core.Option.{Option, none, some}
 use Prim.Native.Nat.{ℕ, zero, suc, _≤_}
 use lib.Dec.{leb, ltb}
-use lib.IntN.{ℤ, pos}
+use lib.IntN.{ℤ}
 use lib.ListN.{length, getD, drop, replicate}
 use lib.Ieee.{Float}
 use Rattle.refusal.specs.Numbers.{moment-range, sizes, short-memory, far-moment}
 use Rattle.refusal.specs.Order.{_if_, first}
 use Rattle.float.specs.Ops.{bits}
-use Rattle.moment.specs.Sample.{timesInRange, Timed, instantAt}
-use Rattle.moment.specs.declared.Instant.{Instant}
+use Rattle.moment.specs.Sample.{timesInRange, Timed}
 use Rattle.pass_set.specs.PassSet.{sizesAgree}
 use Rattle.frame.specs.declared.Vec3.{Vec3}
 use Rattle.orbit.specs.declared.doppler.Station.{Station}
 use Rattle.search.specs.declared.Fixed.{Fixed}
 use Rattle.search.specs.declared.Found.{Found}
-use Rattle.residuals.specs.Samples.{Passes, countsAt, passesOf, Rotations}
+use Rattle.residuals.specs.Samples.{Passes, countsAt, passesOf, stationOf, Rotations}
 use Rattle.residuals.specs.Residuals.{placeOf, rowsOf, penalisedSum, sumOf}
 use Rattle.refine.specs.Advance.{advanceOf}
 use Rattle.book.specs.Book.{Search, After, Book, turn, farRefusal}
@@ -46,13 +45,6 @@ probeRefusal counts times freqs centres room least =
 abbrev pub cleared : ℕ → List Float → List Float
 cleared zero old = replicate (length old) (bits 0)
 cleared (suc k) old = old
-
--- the first sample's moment; of a set without samples, 1970, which nothing reads
-abbrev pub firstEpoch : List ℤ → Instant
-firstEpoch times = instantAt (getD times 0 (pos 0))
-
-abbrev pub stationOf : List ℤ → Float → Vec3 → Station
-stationOf times center rec = record { epoch = firstEpoch times; «center_freq» = center; «rec_ecef» = rec }
 
 -- ---- the search
 

@@ -13,15 +13,13 @@ ghost use Rattle.moment.specs.Sample.{Timed};
 ghost use Rattle.moment.specs.Time.{Sound};
 ghost use Rattle.search.specs.Sum as sums;
 ghost use Rattle.search.specs.Search as starts;
-ghost use Rattle.residuals.specs.Samples.{passesOf, Rotations};
+ghost use Rattle.residuals.specs.Samples.{passesOf, firstEpoch, stationOf, Rotations};
 ghost use Rattle.residuals.specs.Residuals.{residuals};
 ghost use Rattle.trials.specs.Trials.{stateSearch, stateAfter};
 ghost use Rattle.probes.specs.Call.{
   probeRefusal,
-  firstEpoch,
   fixedOf,
   Searches,
-  stationOf,
   samplesOf,
   Sums,
   trialOf,

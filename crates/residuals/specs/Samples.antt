@@ -2,15 +2,16 @@
 use mathlib.Core.Path.{_≡_}
 use mathlib.Core.List.{List, [], _∷_}
 use Prim.Native.Nat.{ℕ, _+_, _*_, _/_, _%_, _≤_, _<_}
-use lib.IntN.{ℤ}
+use lib.IntN.{ℤ, pos}
 use lib.ListN.{length, getD}
 use lib.Ieee.{Float, nan}
 use Rattle.float.specs.declared.trig.SinCos.{SinCos}
 use Rattle.moment.specs.Origin.{perSecond, count1970, count1957, count2057, countsStart}
 use Rattle.moment.specs.Time.{nanosOf, Sound}
-use Rattle.moment.specs.Sample.{shifted}
+use Rattle.moment.specs.Sample.{shifted, instantAt}
 use Rattle.moment.specs.declared.Instant.{Instant}
 use Rattle.frame.specs.Rotation.{turnAt}
+use Rattle.frame.specs.declared.Vec3.{Vec3}
 use Rattle.orbit.specs.declared.doppler.Station.{Station}
 use Rattle.pass_set.specs.PassSet.{total}
 
@@ -31,6 +32,13 @@ countsAt (t ∷ ts) = countAt t ∷ countsAt ts
 
 abbrev pub passesOf : List ℕ → List ℕ → List Float → Passes
 passesOf counts times freqs = record { counts = counts; times = times; freqs = freqs }
+
+-- the station of samples: the first one's moment is the epoch; where there is none, 1970, which nothing reads
+abbrev pub firstEpoch : List ℤ → Instant
+firstEpoch times = instantAt (getD times 0 (pos 0))
+
+abbrev pub stationOf : List ℤ → Float → Vec3 → Station
+stationOf times center rec = record { epoch = firstEpoch times; «center_freq» = center; «rec_ecef» = rec }
 
 -- such a moment by seconds from 2^44 s before 1970 on, and by nanoseconds from there
 unfoldable pub instantOf : ℕ → Instant
