@@ -1,4 +1,4 @@
--- The refusals of document 01, by number; src/lib.rt has the same names for the code.
+-- The refusals of documents 01 and 02, by number; src/lib.rt has the same names for the code.
 use Prim.Native.Nat.{ℕ}
 
 -- a pass file holds a byte above 127
@@ -48,6 +48,10 @@ unprintable = 11
 -- a base, a number of digits, a history or a matrix is out of range
 abbrev pub limits : ℕ
 limits = 12
+
+-- a latitude, longitude or height is out of range or NaN, or a line is not three such numbers
+abbrev pub position-range : ℕ
+position-range = 13
 
 -- a lent output or scratch is too short
 abbrev pub short-memory : ℕ

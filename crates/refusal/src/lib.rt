@@ -1,4 +1,4 @@
-// The refusals of document 01, by number. 0 says that a call was not refused.
+// The refusals of documents 01 and 02, by number. 0 says that a call was not refused.
 
 // From the input.
 // A pass file holds a byte above 127.
@@ -36,6 +36,9 @@ pub const UNPRINTABLE: u32 = 11;
 
 // A base, a number of digits, a history or a matrix is out of range.
 pub const LIMITS: u32 = 12;
+
+// A latitude, longitude or height is out of range or NaN, or a line is not three such numbers.
+pub const POSITION_RANGE: u32 = 13;
 
 // From the state.
 // A lent output or scratch is too short.

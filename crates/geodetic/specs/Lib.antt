@@ -1,0 +1,2 @@
+pub mod Ellipsoid
+pub mod Line
