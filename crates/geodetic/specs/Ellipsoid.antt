@@ -26,10 +26,6 @@ semiMajorAxis-bits = refl
 unfoldable pub inverseFlattening : Float
 inverseFlattening = decimal 298257223563 9
 
-pub inverseFlattening-bits : bits 0x4072a41d9672e5fb ≡ inverseFlattening
-unfolding inverseFlattening ofBits round
-inverseFlattening-bits = refl
-
 abbrev pub flattening : Float
 flattening = one ⊘ inverseFlattening
 

@@ -66,12 +66,16 @@ module _ (ns : List Number) where
   abbrev alt : Number
   alt = getD ns 2 Nothing
 
-  -- the checks of what the fields come to: 3 only on three that Rust would all parse
+  -- three that Rust would all parse, and one of them too long
+  abbrev pub oneTooLong : Bool
+  oneTooLong = three && ((parsed lat && (parsed lon && parsed alt)) && (tooLong lat || (tooLong lon || tooLong alt)))
+
+  -- not three, or not inside the limits
+  abbrev pub noPlace : Bool
+  noPlace = not three || offLimits (valueOf lat) (valueOf lon) (valueOf alt)
+
   abbrev pub checks : List Refusal
-  checks =
-      (refusal.number-size if three && ((parsed lat && (parsed lon && parsed alt)) && (tooLong lat || (tooLong lon || tooLong alt))))
-      ∷ (refusal.position-range if not three || offLimits (valueOf lat) (valueOf lon) (valueOf alt))
-      ∷ []
+  checks = (refusal.number-size if oneTooLong) ∷ (refusal.position-range if noPlace) ∷ []
 
   -- the place that they give
   abbrev pub placeOf : Position

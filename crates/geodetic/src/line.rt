@@ -40,29 +40,63 @@ fn is_parsed(n: Number) -> bool
     }
 }
 
-// Three fields: 3 only where Rust would parse them all.
+fn is_too_long(n: Number) -> bool
+    ensures { λ r. ⌜ r ≡ Spec.tooLong n ⌝ }
+{
+    match n {
+        Number::Nothing => false,
+        Number::Value(_) => false,
+        Number::Refused => true,
+    }
+}
+
+// NaN for what is no number: the limits refuse it.
+fn value(n: Number) -> f64
+    ensures { λ r. ⌜ r ≡ Spec.valueOf n ⌝ }
+{
+    match n {
+        Number::Nothing => 0.0 / 0.0,
+        Number::Value(v) => v,
+        Number::Refused => 0.0 / 0.0,
+    }
+}
+
+// Rust would parse all three, and one is too long.
+fn is_one_too_long(lat: Number, lon: Number, alt: Number) -> bool
+    ensures { λ r. ⌜ r ≡ Spec.oneTooLong (lat ∷ lon ∷ alt ∷ []) ⌝ }
+{
+    if !is_parsed(lat) {
+        return false;
+    }
+    if !is_parsed(lon) {
+        return false;
+    }
+    if !is_parsed(alt) {
+        return false;
+    }
+    if is_too_long(lat) {
+        return true;
+    }
+    if is_too_long(lon) {
+        return true;
+    }
+    is_too_long(alt)
+}
+
 fn place(lat: Number, lon: Number, alt: Number) -> Position
     ensures { λ r. ⌜ r ≡ Spec.fromNumbers (lat ∷ lon ∷ alt ∷ []) ⌝ }
 {
-    if !is_parsed(lat) {
-        return super::refused(refusal::POSITION_RANGE);
-    }
-    if !is_parsed(lon) {
-        return super::refused(refusal::POSITION_RANGE);
-    }
-    if !is_parsed(alt) {
-        return super::refused(refusal::POSITION_RANGE);
-    }
-    let Number::Value(lat_deg) = lat else {
+    if is_one_too_long(lat, lon, alt) {
         return super::refused(refusal::NUMBER_SIZE);
-    };
-    let Number::Value(lon_deg) = lon else {
-        return super::refused(refusal::NUMBER_SIZE);
-    };
-    let Number::Value(alt_m) = alt else {
-        return super::refused(refusal::NUMBER_SIZE);
-    };
-    super::wgs84_to_ecef(lat_deg, lon_deg, alt_m)
+    }
+    super::wgs84_to_ecef(value(lat), value(lon), value(alt))
+}
+
+// A field as it stands: a blank in it belongs to it.
+fn field(l: &[u8]) -> Number
+    ensures { λ r. ⌜ r ≡ number (now (l .entry)) ⌝ }
+{
+    read::parse(l)
 }
 
 // Behind the second comma stands the height, and no comma more.
@@ -73,7 +107,7 @@ fn third(lat: Number, lon: Number, l: &[u8]) -> Position
     if k != l.len() {
         return super::refused(refusal::POSITION_RANGE);
     }
-    place(lat, lon, read::parse(l))
+    place(lat, lon, field(&l[..k]))
 }
 
 fn second(lat: Number, l: &[u8]) -> Position
@@ -83,7 +117,7 @@ fn second(lat: Number, l: &[u8]) -> Position
     if k == l.len() {
         return super::refused(refusal::POSITION_RANGE);
     }
-    third(lat, read::parse(&l[..k]), &l[k + 1..])
+    third(lat, field(&l[..k]), &l[k + 1..])
 }
 
 fn first(l: &[u8]) -> Position
@@ -93,7 +127,7 @@ fn first(l: &[u8]) -> Position
     if k == l.len() {
         return super::refused(refusal::POSITION_RANGE);
     }
-    second(read::parse(&l[..k]), &l[k + 1..])
+    second(field(&l[..k]), &l[k + 1..])
 }
 
 // The place that a line says: three numbers, the blanks at the line's ends trimmed and those beside commas not.

@@ -1,0 +1,11 @@
+use mathlib.Core.Path.{refl}
+use Rattle.geodetic.specs.Ellipsoid.{zeros}
+use Rattle.geodetic.proofs.refused.Statement.{statement}
+use Rattle.geodetic.proofs.refused.Tie as tie
+
+returns : tie.Need-returns
+unfolding zeros
+returns c = refl
+
+pub refused-spec : {M : Type 1} → statement M
+refused-spec = tie.close (tie.spec returns)
