@@ -1,2 +1,3 @@
 pub mod Ellipsoid
 pub mod Line
+pub mod Lines
