@@ -9,7 +9,7 @@ use lib.IntN.{ℤ}
 use lib.ListN.{length}
 use lib.Ieee.{Float}
 use Rattle.refusal.specs.Numbers.{moment-range, sizes, short-memory}
-use Rattle.refusal.specs.Order.{_if_, first, unlessRefused}
+use Rattle.refusal.specs.Order.{_if_, first}
 use Rattle.float.specs.Ops.{bits}
 use Rattle.moment.specs.declared.Moment.{Moment}
 use Rattle.moment.specs.declared.Instant.{Instant}
@@ -101,7 +101,3 @@ rss-refused (suc n) v h = refl
 pub gradient-refused : (n : ℕ) (g : Gradient) → (n ≡ 0 → ⊥) → _≡_ {A = Gradients} (record { refusal = n; gradient = noGradient }) (gradientAnswer n g)
 gradient-refused zero g h = absurd (h refl)
 gradient-refused (suc n) g h = refl
-
-pub kept : (n : ℕ) (new old : List ℤ) → (n ≡ 0 → ⊥) → old ≡ unlessRefused n new old
-kept zero new old h = absurd (h refl)
-kept (suc n) new old h = refl

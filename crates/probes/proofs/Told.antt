@@ -5,7 +5,7 @@ use mathlib.Core.Option.{Option}
 use Prim.Native.Nat.{ℕ, zero, suc}
 use native.Mathlib.Omega.{arith}
 use lib.Ieee.{Float}
-use Rattle.refusal.specs.Order.{unlessRefused}
+use Rattle.refusal.proofs.Written.{kept, put}
 use Rattle.search.specs.declared.Found.{Found}
 use Rattle.book.specs.Book.{Search, After}
 use Rattle.trials.specs.Trials.{stateSearch, stateAfter}
@@ -15,14 +15,6 @@ use Rattle.probes.specs.declared.Searched.{Searched}
 use Rattle.probes.specs.declared.Residuals.{Residuals}
 use Rattle.probes.specs.declared.Tried.{Tried}
 use Rattle.probes.proofs.Calls.{not-far}
-
-kept : {A : Type 0} (n : ℕ) (new old : A) → (n ≡ 0 → ⊥) → old ≡ unlessRefused n new old
-kept zero new old h = absurd (h refl)
-kept (suc n) new old h = refl
-
-put : {A : Type 0} (n : ℕ) (x new old : A) → n ≡ 0 → x ≡ new → x ≡ unlessRefused n new old
-put zero x new old z q = q
-put (suc n) x new old z q = absurd (omega (arith, z))
 
 module _ (f : Found) (table table′ out : List Float) (r : Searched) where
   pub searches-kept : (k : ℕ) → Searches k f table table′ r → (r .refusal ≡ 0 → ⊥) → SearchesTo k f table table′ out out (r .refusal)

@@ -3,7 +3,8 @@ use mathlib.Core.Path.{sym, _∙_}
 use borrow.Author.Needs.{needs}
 use borrow.Author.Tests.{lt-ltb, le-ltb}
 use Rattle.moment.proofs.Ranges.{at-is}
-use Rattle.approach.proofs.Refusals.{accepted-set, pca-epoch-out, pca-refused, pca-room, station-is, kept}
+use Rattle.approach.proofs.Refusals.{accepted-set, pca-epoch-out, pca-refused, pca-room, station-is}
+use Rattle.refusal.proofs.Written.{kept}
 use Rattle.approach.proofs.get_pred_pca_times.Statement.{statement}
 use Rattle.approach.proofs.get_pred_pca_times.Tie as tie
 
