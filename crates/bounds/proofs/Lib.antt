@@ -1,1 +1,4 @@
 pub mod Bounds
+pub mod Root
+pub mod Sine
+pub mod Size
