@@ -1,21 +1,20 @@
 -- The square root keeps bounds that are squares. P counts the root in units of 2 ^ -1075, of which `rootOf` rounds a whole number and a last digit
 -- for the rest. Assumes nothing.
-use mathlib.Core.Path.{_≡_, refl, sym, ap, _∙_, subst}
+use mathlib.Core.Path.{_≡_, refl, ap, _∙_}
 use mathlib.Core.Logic.{inl, inr}
 use mathlib.Core.Bool.{Bool, true, false, true≢false, cond}
 use Prim.Native.Nat.{ℕ, zero, suc, _+_, _*_, _/_, _^_, _≤_, _<_}
-use native.Mathlib.Nat.{lt-of-not-le, not-le-of-lt, le-trans, le-of-eq, le-refl, lt-of-le-of-lt, lt-of-lt-of-le, lt-irrefl, mul-le-mul, mul-le-mul-right, mul-assoc, mul-right-comm, mul-comm, mul-pos, zero-lt-suc, div-le-of-le-mul, le-div-iff-mul-le, le-of-mul-le-mul-right, eq-or-lt-of-le}
+use native.Mathlib.Nat.{lt-of-not-le, not-le-of-lt, le-trans, le-of-eq, lt-of-le-of-lt, lt-of-lt-of-le, lt-irrefl, mul-le-mul, mul-le-mul-right, mul-right-comm, mul-comm, mul-pos, div-le-of-le-mul, le-div-iff-mul-le, le-of-mul-le-mul-right, eq-or-lt-of-le}
 use native.Mathlib.Omega.{arith}
-use lib.Dec.{T, eqb, lit<}
-use lib.Pow.{pow-pos}
-use lib.Ieee.{Float, nan, inf, fin, binary64, up, down, round}
+use lib.Dec.{eqb, lit<}
+use lib.Ieee.{Float, nan, inf, fin, up, down}
 use lib.Ieee.Fits.{down-pos}
-use lib.Ieee.Positive.{through, first-pos}
+use lib.Ieee.Positive.{first-pos}
 use borrow.Author.Tests.{eq-eqb}
-use Rattle.float.proofs.Rounding.{Within}
+use Rattle.float.proofs.Rounding.{Within, Stays, round-stays}
 use Rattle.roots.specs.Root.{isqrt, rootOf, sqrtOf}
 use Rattle.roots.proofs.Whole.{isqrt-whole}
-use Rattle.bounds.proofs.Size.{Stays, round-stays, Least, round-least}
+use Rattle.bounds.proofs.Bounds.{Least, round-least}
 
 square-lt : (a b : ℕ) → a * a < b * b → a < b
 square-lt a b h = lt-of-not-le (λ (g : b ≤ a). not-le-of-lt h (mul-le-mul g g))

@@ -1,28 +1,23 @@
 -- Sine and cosine of a finite number are finite and at most 1 in size. What the polynomials come to is bounded by powers of two, and coarsely: it only has to be
 -- finite, then `heldOf` does the rest. Assumes nothing.
-use mathlib.Core.Path.{_≡_, refl, sym, ap, _∙_, subst}
+use mathlib.Core.Path.{_≡_, refl}
 use mathlib.Core.Bool.{Bool, true, false, cond}
 use mathlib.Core.List.{List, [], _∷_}
 use Prim.Native.Nat.{ℕ, zero, suc, _+_, _*_, _/_, _^_, _≤_, _<_, zero-le}
-use native.Mathlib.Nat.{le-trans, le-of-eq, mul-pos, mul-one, zero-lt-suc, div-lt-iff-lt-mul}
+use native.Mathlib.Nat.{mul-pos, zero-lt-suc}
 use native.Mathlib.Omega.{arith}
-use lib.IntN.{ℤ, pos, negsuc}
-use lib.Dec.{T, ltb, lit<, lit≤, eqb}
-use lib.ListN.{length}
+use lib.IntN.{ℤ, pos}
+use lib.Dec.{T, ltb, lit<, lit≤}
 use lib.Ieee.{Float, nan, inf, fin, binary64, up, down, neg, lt, ofBits, round}
 use lib.Ieee.Fits.{down-pos}
 use borrow.Author.Tests.{ltb-false}
-use Rattle.float.specs.Ops.{_⊕_, _⊖_, _⊗_, _⊘_, _⊛_, bits, one, wholeOf, roundOf}
+use Rattle.float.specs.Ops.{_⊗_, _⊛_, one, wholeOf, roundOf}
 use Rattle.float.specs.Trig.{full, quarter, horner, factorial, sineTerm, cosineTerm, nine, sinPoly, cosPoly, quartersOf, quadrantOf, restOf, heldOf, pick, isFinite, sinAt, cosAt, sinOf, cosOf}
-use Rattle.bounds.proofs.Size.{Stays, round-stays, Size, size-up, neg-size, div-size, rem-within, Below, below-up, mul-below, add-below, sub-below, stays-power}
+use Rattle.float.proofs.Rounding.{Size, Stays, round-stays}
+use Rattle.float.proofs.Angle.{turn-within, quarters-size, whole-le}
+use Rattle.bounds.proofs.Size.{size-up, neg-size, Below, below-up, mul-below, add-below, sub-below, stays-power}
 
--- ---- the whole number nearest to what is at most a whole number
-whole-le : (b A D : ℕ) → 0 < D → A * 1 ≤ b * D → (2 * A + D) / (2 * D) ≤ b
-whole-le b A D P h = below (div-lt-iff-lt-mul (mul-pos (lit< tt) P) .1 (omega arith))
-  where
-    below : {n : ℕ} → n < suc b → n ≤ b
-    below h = omega arith
-
+-- ---- rounded to a whole number, at most a whole number
 pub round-size : (b : ℕ) (x : Float) → Size b 1 x → Stays b 1 → Size b 1 (roundOf x)
 unfolding roundOf wholeOf
 round-size b nan w st = absurd (w .1)
@@ -33,27 +28,20 @@ round-size b (fin s m e) w st =
     times : {n : ℕ} → n ≤ b → n * 1 ≤ b * 1
     times h = omega arith
 
--- ---- the rest within a quarter turn: 2 ^ 3 for the rest of a turn, 2 ^ 4 for the quarters, so 2 ^ 5
+-- ---- the rest within a quarter turn: 2 ^ 3 for the rest of a turn and for its quarters, so 2 ^ 4
 turn-below : (s : Bool) (m : ℕ) (e : ℤ) → Below 3 (fin s m e ⊛ full)
-unfolding full round
-turn-below s m e = size-up 884279719003555 (2 ^ 47) (2 ^ 3) 1 (fin s m e ⊛ full) (lit< tt) (lit≤ tt) (s, rem-within s m e 884279719003555 (negsuc 46) (lit< tt) (refl, refl))
+turn-below s m e = size-up 884279719003555 (2 ^ 47) (2 ^ 3) 1 (fin s m e ⊛ full) (lit< tt) (lit≤ tt) (s, turn-within s m e)
 
 quarter-below : Below 1 quarter
 unfolding quarter round
 quarter-below = (false, (refl, lit≤ tt))
 
-quarters-below : (x : Float) → Below 3 x → Below 3 (x ⊘ quarter)
-unfolding quarter round
-quarters-below x w = div-size (2 ^ 3) 1 1 1 (2 ^ 3) 1 x quarter (lit< tt) (lit< tt) (lit< tt) w (lit≤ tt) (lit≤ tt) (stays-power 3 (lit< tt))
-
-rest-below : (s : Bool) (m : ℕ) (e : ℤ) → Below 5 (restOf (fin s m e))
-unfolding restOf quartersOf
+rest-below : (s : Bool) (m : ℕ) (e : ℤ) → Below 4 (restOf (fin s m e))
+unfolding restOf
 rest-below s m e =
     let z = fin s m e ⊛ full in
-    let Z = turn-below s m e in
-    let q = roundOf (z ⊘ quarter) in
-    sub-below 4 z (q ⊗ quarter) (lit< tt) (below-up 3 4 z (lit≤ tt) Z)
-    (mul-below 3 1 q quarter (lit< tt) (round-size (2 ^ 3) (z ⊘ quarter) (quarters-below z Z) (stays-power 3 (lit< tt))) quarter-below)
+    let y = quartersOf (fin s m e) in
+    sub-below 3 z (roundOf y ⊗ quarter) (lit< tt) (turn-below s m e) (mul-below 2 1 (roundOf y) quarter (lit< tt) (round-size (2 ^ 2) y (quarters-size s m e) (stays-power 2 (lit< tt))) quarter-below)
 
 -- ---- the polynomials: their terms are at most 1, so each step multiplies the bound by that of w and doubles it
 abbrev Terms : List Float → Type 0
@@ -100,13 +88,13 @@ cosine-terms : Terms (nine cosineTerm)
 unfolding cosineTerm
 cosine-terms = nine-below cosineTerm (λ (k : ℕ). part-below _ (factorial (2 * k)) (factorial-pos (2 * k)))
 
-sin-poly-below : (r : Float) → Below 5 r → Below 104 (sinPoly r)
+sin-poly-below : (r : Float) → Below 4 r → Below 85 (sinPoly r)
 unfolding sinPoly
-sin-poly-below r h = mul-below 5 99 r (horner (r ⊗ r) (nine sineTerm)) (lit< tt) h (horner-below 10 (r ⊗ r) (nine sineTerm) (mul-below 5 5 r r (lit< tt) h h) sine-terms (lit< tt))
+sin-poly-below r h = mul-below 4 81 r (horner (r ⊗ r) (nine sineTerm)) (lit< tt) h (horner-below 8 (r ⊗ r) (nine sineTerm) (mul-below 4 4 r r (lit< tt) h h) sine-terms (lit< tt))
 
-cos-poly-below : (r : Float) → Below 5 r → Below 104 (cosPoly r)
+cos-poly-below : (r : Float) → Below 4 r → Below 85 (cosPoly r)
 unfolding cosPoly
-cos-poly-below r h = below-up 99 104 (cosPoly r) (lit≤ tt) (horner-below 10 (r ⊗ r) (nine cosineTerm) (mul-below 5 5 r r (lit< tt) h h) cosine-terms (lit< tt))
+cos-poly-below r h = below-up 81 85 (cosPoly r) (lit≤ tt) (horner-below 8 (r ⊗ r) (nine cosineTerm) (mul-below 4 4 r r (lit< tt) h h) cosine-terms (lit< tt))
 
 -- ---- held to [−1, 1]
 held-size : (b d : ℕ) (x : Float) → Size b d x → Size 1 1 (heldOf x)
@@ -139,7 +127,7 @@ sin-size (fin s m e) f =
     let R = rest-below s m e in
     let S = sin-poly-below r R in
     let C = cos-poly-below r R in
-    held-size (2 ^ 104) 1 _ (pick-size (quadrantOf (quartersOf (fin s m e))) (2 ^ 104) 1 (sinPoly r) (cosPoly r) (neg (sinPoly r)) (neg (cosPoly r)) S C (neg-size (2 ^ 104) 1 (sinPoly r) S) (neg-size (2 ^ 104) 1 (cosPoly r) C))
+    held-size (2 ^ 85) 1 _ (pick-size (quadrantOf (quartersOf (fin s m e))) (2 ^ 85) 1 (sinPoly r) (cosPoly r) (neg (sinPoly r)) (neg (cosPoly r)) S C (neg-size (2 ^ 85) 1 (sinPoly r) S) (neg-size (2 ^ 85) 1 (cosPoly r) C))
 
 pub cos-size : (v : Float) → T (isFinite v) → Size 1 1 (cosOf v)
 unfolding cosOf cosAt
@@ -150,4 +138,4 @@ cos-size (fin s m e) f =
     let R = rest-below s m e in
     let S = sin-poly-below r R in
     let C = cos-poly-below r R in
-    held-size (2 ^ 104) 1 _ (pick-size (quadrantOf (quartersOf (fin s m e))) (2 ^ 104) 1 (cosPoly r) (neg (sinPoly r)) (neg (cosPoly r)) (sinPoly r) C (neg-size (2 ^ 104) 1 (sinPoly r) S) (neg-size (2 ^ 104) 1 (cosPoly r) C) S)
+    held-size (2 ^ 85) 1 _ (pick-size (quadrantOf (quartersOf (fin s m e))) (2 ^ 85) 1 (cosPoly r) (neg (sinPoly r)) (neg (cosPoly r)) (sinPoly r) C (neg-size (2 ^ 85) 1 (sinPoly r) S) (neg-size (2 ^ 85) 1 (cosPoly r) C) S)

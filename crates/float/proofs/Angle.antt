@@ -12,7 +12,7 @@ use borrow.Author.Tests.{le-ltb, ltb-true, ltb-false}
 use Rattle.float.specs.Ops.{bits, one, wholeOf, roundOf, _⊛_, _⊘_, _⊖_, _⊗_}
 use Rattle.float.specs.Trig.{full, quarter, quadrantOf, quartersOf, restOf, sinAt, cosAt, sinOf, cosOf, sinPoly, cosPoly, cosineTerm, heldOf, isFinite}
 use Rattle.float.proofs.Own.{flat}
-use Rattle.float.proofs.Rounding.{Within, round-within, neg-round}
+use Rattle.float.proofs.Rounding.{Within, Size, round-stays, rem-within, neg-round}
 
 -- ---- where an a from 0 to 4 stands among 0.5, 1.5, 2.5 and 3.5 says what it rounds to
 
@@ -63,41 +63,41 @@ Small nan = Unit
 Small (inf s) = ⊥
 Small (fin s m e) = m * up e * 1 ≤ 4 * down e
 
-within-small : (s : Bool) (x : Float) → Within s 4 1 x → Small x
-within-small s nan h = tt
-within-small s (inf t) h = h
-within-small s (fin t m e) h = h .1
+small-size : (x : Float) → Size 4 1 x → Small x
+small-size nan h = tt
+small-size (inf t) h = h .1
+small-size (fin t m e) h = h .1 .1
 
 -- z / 1.57.. for a z of at most 6.28..
-div-small : (s : Bool) (z : Float) → Within s 884279719003555 (2 ^ 47) z → Small (z ⊘ quarter)
-unfolding div ofBits quarter
-div-small s nan h = absurd h
-div-small s (inf t) h = absurd h
-div-small s (fin t m e) h =
-    within-small (unlike t false) (fin t m e ⊘ quarter)
-    (round-within binary64 (unlike t false) (m * up e * 2 ^ 49) (884279719003555 * down e) 4 1 1 (pos 2)
-    (mul-pos (lit< tt) (down-pos e)) (lit< tt) (omega (arith, h .1)) (unfold round in refl))
+div-size : (s : Bool) (z : Float) → Within s 884279719003555 (2 ^ 47) z → Size 4 1 (z ⊘ quarter)
+unfolding div quarter round
+div-size s nan h = absurd h
+div-size s (inf t) h = absurd h
+div-size s (fin t m e) h = (
+  unlike t false,
+  round-stays (unlike t false) (m * up e * 2 ^ 49) (884279719003555 * down e) 4 1 (mul-pos (lit< tt) (down-pos e)) (lit< tt) (omega (arith, h .1)) (refl, refl),
+)
 
-rem-within : (s : Bool) (m : ℕ) (e : ℤ) → Within s 884279719003555 (2 ^ 47) (fin s m e ⊛ full)
-unfolding rem ofBits full
-rem-within s m e =
-    let C : 0 < 884279719003555 * down e = mul-pos (lit< tt) (down-pos e) in
-    round-within binary64 s (m * up e * 2 ^ 47 % (884279719003555 * down e)) (down e * 2 ^ 47) 884279719003555 (2 ^ 47) 884279719003555 (negsuc 46)
-    (mul-pos (down-pos e) (lit< tt)) (lit< tt)
-    (omega (arith, mod-lt (m * up e * 2 ^ 47) C))
-    (unfold round in refl)
+pub turn-within : (s : Bool) (m : ℕ) (e : ℤ) → Within s 884279719003555 (2 ^ 47) (fin s m e ⊛ full)
+unfolding full round
+turn-within s m e = rem-within s m e 884279719003555 (negsuc 46) (lit< tt) (refl, refl)
+
+pub quarters-size : (s : Bool) (m : ℕ) (e : ℤ) → Size 4 1 (quartersOf (fin s m e))
+unfolding quartersOf
+quarters-size s m e = div-size s (fin s m e ⊛ full) (turn-within s m e)
 
 small : (v : Float) → Small (quartersOf v)
 unfolding quartersOf
 small nan = unfold rem div in tt
 small (inf s) = unfold rem div in tt
-small (fin s m e) = div-small s (fin s m e ⊛ full) (rem-within s m e)
+small (fin s m e) = small-size (quartersOf (fin s m e)) (quarters-size s m e)
 
-four : (A D : ℕ) → 0 < D → A * 1 ≤ 4 * D → (2 * A + D) / (2 * D) ≤ 4
-four A D P h = le-of-lt-succ (div-lt-iff-lt-mul (mul-pos (lit< tt) P) .1 (omega arith))
+-- what is at most a whole number rounds to at most that
+pub whole-le : (b A D : ℕ) → 0 < D → A * 1 ≤ b * D → (2 * A + D) / (2 * D) ≤ b
+whole-le b A D P h = below (div-lt-iff-lt-mul (mul-pos (lit< tt) P) .1 (omega arith))
   where
-    le-of-lt-succ : {n : ℕ} → n < 5 → n ≤ 4
-    le-of-lt-succ h = omega arith
+    below : {n : ℕ} → n < suc b → n ≤ b
+    below h = omega arith
 
 pub counted-below : (v : Float) → lt (quartersOf v) (bits 0) ≡ true → Counted (neg (quartersOf v))
 counted-below v t = go (quartersOf v) (small v) t
@@ -106,7 +106,7 @@ counted-below v t = go (quartersOf v) (small v) t
     go nan h t = absurd (true≢false (sym t ∙ (unfold lt in refl)))
     go (inf s) h t = absurd h
     go (fin false m e) h t = absurd (true≢false (sym t ∙ (unfold lt ofBits in le-ltb (m * up e * 1) (0 * down e) (omega arith))))
-    go (fin true m e) h t = unfold neg lt ofBits wholeOf in (refl, le-ltb (m * up e * 1) (0 * down e) (omega arith), four (m * up e) (down e) (down-pos e) h)
+    go (fin true m e) h t = unfold neg lt ofBits wholeOf in (refl, le-ltb (m * up e * 1) (0 * down e) (omega arith), whole-le 4 (m * up e) (down e) (down-pos e) h)
 
 pub counted-above : (v : Float) → lt (bits 0) (quartersOf v) ≡ true → Counted (quartersOf v)
 counted-above v t = go (quartersOf v) (small v) t
@@ -115,7 +115,7 @@ counted-above v t = go (quartersOf v) (small v) t
     go nan h t = absurd (true≢false (sym t ∙ (unfold lt ofBits in refl)))
     go (inf s) h t = absurd h
     go (fin true m e) h t = absurd (true≢false (sym t ∙ (unfold lt ofBits in refl)))
-    go (fin false m e) h t = unfold lt ofBits wholeOf in (refl, le-ltb (m * up e * 1) (0 * down e) (omega arith), four (m * up e) (down e) (down-pos e) h)
+    go (fin false m e) h t = unfold lt ofBits wholeOf in (refl, le-ltb (m * up e * 1) (0 * down e) (omega arith), whole-le 4 (m * up e) (down e) (down-pos e) h)
 
 -- ---- what the code works out in each arm: the quadrant, and y rounded
 

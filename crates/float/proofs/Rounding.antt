@@ -1,13 +1,18 @@
 -- `round` and the sign, and a bound on what it gives. Assumes nothing.
 use mathlib.Core.Path.{_≡_, refl, sym, ap, _∙_, subst}
 use mathlib.Core.Bool.{Bool, true, false, true≢false, not, _&&_, _||_, cond}
-use Prim.Native.Nat.{ℕ, zero, suc, _+_, _*_, _^_, _≤_, _<_}
-use native.Mathlib.Nat.{le-of-lt, le-of-eq}
+use Prim.Native.Nat.{ℕ, zero, suc, _+_, _*_, _%_, _^_, _≤_, _<_}
+use native.Mathlib.Nat.{le-of-lt, le-of-eq, le-trans, mul-pos, mul-assoc, mul-le-mul-right, mod-lt}
+use native.Mathlib.Omega.{arith}
 use lib.IntN.{ℤ}
 use lib.Dec.{T, ltb, eqb, ltb→lt, eqb→eq}
-use lib.Ieee.{Float, nan, inf, fin, Format, up, down, low, emax, prec, neg, le, round, units, odd}
-use lib.Ieee.Fits.{round-is}
+use lib.Ieee.{Float, nan, inf, fin, Format, binary64, up, down, low, emax, prec, neg, le, rem, round, units, odd}
+use lib.Ieee.Exact.{HasValue}
+use lib.Ieee.Fits.{round-is, up-pos, down-pos}
 use lib.Ieee.Order.{round-mono, kept, drop}
+use lib.Ieee.Positive.{through}
+use borrow.Author.Tests.{ne-eqb}
+use Rattle.float.specs.Ops.{_⊛_}
 
 -- ---- the sign goes through
 neg-odd : (d : ℕ) (s : Bool) (q k l : ℕ) → neg (odd d s q k l) ≡ odd d (not s) q k l
@@ -34,6 +39,16 @@ abbrev pub Within : Bool → ℕ → ℕ → Float → Type 0
 Within s b d nan = ⊥
 Within s b d (inf t) = ⊥
 Within s b d (fin t m e) = (t ≡ s) × (m * up e * d ≤ b * down e)
+
+-- with either sign
+abbrev pub Size : ℕ → ℕ → Float → Type 0
+Size b d x = (s : Bool) × Within s b d x
+
+-- a larger bound
+pub wider : (s : Bool) (b d c e : ℕ) (x : Float) → 0 < d → b * e ≤ c * d → Within s b d x → Within s c e x
+wider s b d c e nan D h w = w
+wider s b d c e (inf t) D h w = w
+wider s b d c e (fin t m k) D h w = (w .0, through (m * up k) b c (down k) d e D (w .1) h)
 
 -- an infinity or a number, of the sign s
 abbrev Has : Bool → Float → Type 0
@@ -93,3 +108,25 @@ round-within f false a c b d n k C D h e = plain-within f a c b d n k C D h e
 round-within f true a c b d n k C D h e =
     subst (Within true (n * up k) (down k)) (neg-round f false a c)
     (flip (n * up k) (down k) (round f false a c) (plain-within f a c b d n k C D h e))
+
+-- ---- b / d is a float: rounding leaves it as it is, and so what is at most b / d stays at most that
+abbrev pub Stays : ℕ → ℕ → Type 0
+Stays b d = HasValue (round binary64 false b d) false b d
+
+pub round-stays : (s : Bool) (a c b d : ℕ) → 0 < c → 0 < d → a * d ≤ b * c → Stays b d → Within s b d (round binary64 s a c)
+round-stays s a c b d C D h = go (round binary64 false b d) refl
+  where
+    go : (y : Float) → round binary64 false b d ≡ y → HasValue y false b d → Within s b d (round binary64 s a c)
+    go nan e v = absurd v
+    go (inf t) e v = absurd v
+    go (fin true n k) e v = absurd (true≢false (v .0))
+    go (fin false n k) e v = wider s (n * up k) (down k) b d (round binary64 s a c) (down-pos k) (le-of-eq (v .1)) (round-within binary64 s a c b d n k C D h e)
+
+-- a remainder by a float above zero is at most that
+pub rem-within : (s : Bool) (m : ℕ) (e : ℤ) (n : ℕ) (k : ℤ) → 0 < n → Stays (n * up k) (down k) → Within s (n * up k) (down k) (fin s m e ⊛ fin false n k)
+unfolding rem
+rem-within s m e n k N st =
+    let P : 0 < n * up k * down e = mul-pos (mul-pos N (up-pos k)) (down-pos e) in
+    simp (ne-eqb n 0 (λ z. omega arith))
+    (round-stays s (m * up e * down k % (n * up k * down e)) (down e * down k) (n * up k) (down k) (mul-pos (down-pos e) (down-pos k)) (down-pos k)
+    (le-trans (mul-le-mul-right (down k) (le-of-lt (mod-lt (m * up e * down k) P))) (le-of-eq (mul-assoc (n * up k) (down e) (down k)))) st)
