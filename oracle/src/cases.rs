@@ -67,6 +67,62 @@ pub fn receiver(r: &mut Random) -> [f64; 3] {
     if r.one_in(30) { at } else { [at[0] * 6371e3 / size, at[1] * 6371e3 / size, at[2] * 6371e3 / size] }
 }
 
+/// v, or one of the two floats next to it.
+fn beside(r: &mut Random, v: f64) -> f64 {
+    match r.below(3) {
+        0 => v.next_up(),
+        1 => v.next_down(),
+        _ => v,
+    }
+}
+
+/// A zero of either sign, or a number that vanishes beside others.
+fn small(r: &mut Random) -> f64 {
+    let v = r.pick(&[0.0, 0.0, 5e-324, 2.2250738585072014e-308, 1e-300, 1e-20, 1e-12, 1e-9, 1e-6, 1e-3, 1.0]);
+    if r.one_in(2) { -v } else { v }
+}
+
+/// Not finite, or beyond all ends of refusal 13.
+fn far(r: &mut Random) -> f64 {
+    let v = r.pick(&[f64::NAN, f64::INFINITY, f64::MAX, 1e300, 1e20, 1e9, 20000.0, 10001.0]);
+    if r.one_in(2) { -v } else { v }
+}
+
+/// Latitude, longitude and height: refusal 13's ends and multiples of 45 degrees with their neighbours, small ones, some that 13 refuses.
+pub fn geodetic(r: &mut Random) -> [f64; 3] {
+    let degrees = |r: &mut Random, most: u64| {
+        let end = most as f64;
+        match r.below(12) {
+            0 | 1 => {
+                let v = r.pick(&[-end, end]);
+                beside(r, v)
+            }
+            2 | 3 => {
+                // One multiple past each end.
+                let eighths = most / 45 + 1;
+                let v = 45.0 * (r.below(2 * eighths + 1) as f64 - eighths as f64);
+                beside(r, v)
+            }
+            4 => small(r),
+            5 if r.one_in(4) => far(r),
+            6 if r.one_in(4) => r.float(),
+            _ => r.between(-end, end),
+        }
+    };
+    let height = match r.below(12) {
+        0 | 1 => {
+            let v = r.pick(&[-500.0, 10000.0]);
+            beside(r, v)
+        }
+        2 | 3 => small(r),
+        4 => r.between(-500.0, 500.0).round(),
+        5 if r.one_in(4) => far(r),
+        6 if r.one_in(4) => r.float(),
+        _ => r.between(-500.0, 10000.0),
+    };
+    [degrees(r, 90), degrees(r, 360), height]
+}
+
 pub fn shift(r: &mut Random) -> f64 {
     match r.below(12) {
         0 => r.pick(&[8e12, -8e12, 7.9e12, 8.1e12, -8.3e12, 8.3e12, 1e13, 9.3e12, -9.3e12, 1e300, -9e-7, 1e-6, -0.0]),

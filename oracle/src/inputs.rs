@@ -18,7 +18,7 @@ pub const KINDS: &[&str] = &[
 pub fn first_field(kind: &str) -> Option<&'static str> {
     let at = KINDS.iter().position(|&k| k == kind);
     match kind {
-        "normal" | "teme" | "wgs84" | "checksum" => None,
+        "normal" | "teme" | "checksum" => None,
         "put_fixed" | "rfc3339" => Some("taken"),
         _ => (at >= KINDS.iter().position(|&k| k == "monna")).then_some("by refusal"),
     }
@@ -123,7 +123,7 @@ pub fn fields(kind: &str, seed: u64, k: u64) -> Vec<u64> {
         "teme" => (0..6).fold(l.float(r.near(2435839.5, 2472365.5, 6)), |l, k| {
             l.float(if k < 3 { r.near(-1e7, 1e7, 10) } else { r.near(-8e3, 8e3, 10) })
         }),
-        "wgs84" => l.floats(&[r.near(-90.0, 90.0, 8), r.near(-360.0, 360.0, 8), r.near(-500.0, 1e4, 8)]),
+        "wgs84" => l.floats(&cases::geodetic(r)),
         "prop" => {
             let (e, epoch) = (cases::elements(r), cases::moment(r));
             let (t, u) = (cases::later(r, epoch), cases::later(r, epoch));

@@ -124,8 +124,12 @@ pub fn teme(jd: f64, s: [f64; 6]) -> [f64; 6] {
     six(orbit::teme_to_ecef(jd, [s[0], s[1], s[2]], [s[3], s[4], s[5]]))
 }
 
-pub fn wgs84(lat: f64, lon: f64, alt: f64) -> [f64; 3] {
-    orbit::wgs84_to_ecef(lat, lon, alt)
+/// Document 02's 13: latitude beyond ±90, longitude beyond ±360, height outside −500 to 10,000 or any of them NaN.
+pub fn wgs84(lat: f64, lon: f64, alt: f64) -> Answer<[f64; 3]> {
+    if [lat, lon, alt].iter().any(|v| v.is_nan()) || lat.abs() > 90.0 || lon.abs() > 360.0 || alt < -500.0 || alt > 10000.0 {
+        return Err(13);
+    }
+    Ok(orbit::wgs84_to_ecef(lat, lon, alt))
 }
 
 pub fn prop(e: [f64; 4], epoch: Moment, t_orbit: Moment, t_rotate: Moment) -> Answer<[f64; 6]> {

@@ -43,7 +43,7 @@ pub fn answered(kind: &str, fields: &[u64]) -> Option<Line> {
         "normal" => l.list(&judge::normal(f.floats()?)),
         "jd" => l.refused_or(&judge::jd(f.moment()?), |l, &x| l.float(x)),
         "teme" => l.floats(&judge::teme(f.float()?, f.floats()?)),
-        "wgs84" => l.floats(&judge::wgs84(f.float()?, f.float()?, f.float()?)),
+        "wgs84" => l.refused_or(&judge::wgs84(f.float()?, f.float()?, f.float()?), |l, x| l.floats(x)),
         "prop" => {
             let x = judge::prop(f.floats()?, f.moment()?, f.moment()?, f.moment()?);
             l.refused_or(&x, |l, s| l.floats(s))

@@ -1,6 +1,6 @@
 //! The port, through its static libraries (`exports`, and `probes` for the calls that only the comparison makes), in the shape of
 //! `judge.rs`: the kinds of lines are made by the same code for both. Every output is lent between guards and filled with a pattern before the call; after it, whatever should have
-//! been left alone is looked at. A function that the port does not export yet is in no list of KINDS.
+//! been left alone is looked at. KINDS are compared where none is named: searches and fits, which take long, are not among them, nor is what the port does not export.
 #![allow(dead_code)]
 use common::{Moment, Set};
 pub use patched::judge::{Answer, File, Fit, State};
@@ -8,7 +8,7 @@ pub use patched::judge::{Answer, File, Fit, State};
 pub const KINDS: &[&str] = &[
     "sqrt", "cbrt", "sin", "cos", "ln", "abs", "floor", "round", "signum", "to_degrees", "to_radians", "max",
     "min", "rem_euclid", "to_u64", "to_i64", "wrapping_mul", "draw", "gaussian", "monna", "unmonna", "padic",
-    "history", "normal", "jd", "teme", "prop", "pred", "poly", "pca", "rss", "grad", "solve", "residuals1",
+    "history", "normal", "jd", "teme", "wgs84", "prop", "pred", "poly", "pca", "rss", "grad", "solve", "residuals1",
     "residuals2", "step1", "step2", "steps1", "steps2", "lines", "checksum", "file", "load", "store", "parse", "put_fixed",
     "rfc3339",
 ];
@@ -62,6 +62,7 @@ unsafe extern "C" {
     pub fn wisvalom_next_f64(state: u64, next: *mut u64) -> f64;
     pub fn wisvalom_next_gaussian(state: u64, next: *mut u64) -> f64;
     pub fn wisvalom_teme_to_ecef(jd: f64, x: f64, y: f64, z: f64, vx: f64, vy: f64, vz: f64, out: *mut f64);
+    pub fn wisvalom_wgs84_to_ecef(lat_deg: f64, lon_deg: f64, alt_m: f64, out: *mut [f64; 3]) -> u32;
     pub fn wisvalom_get_pred_pca_times(
         a: f64, i: f64, raan: f64, u0: f64, epoch: i64, epoch_nanos: u32, x: f64, y: f64, z: f64,
         counts: *const u32, passes: usize, times: *const i64, samples: usize,
@@ -344,6 +345,10 @@ pub fn teme(jd: f64, s: [f64; 6]) -> [f64; 6] {
     .unwrap()
     .try_into()
     .unwrap()
+}
+
+pub fn wgs84(lat: f64, lon: f64, alt: f64) -> Answer<[f64; 3]> {
+    lent(3, |out| unsafe { wisvalom_wgs84_to_ecef(lat, lon, alt, out as *mut [f64; 3]) }).map(|v| v.try_into().unwrap())
 }
 
 /// Some places more than a call needs, by the size of what it is given, so that both are tried.
@@ -856,9 +861,4 @@ pub fn rfc3339(text: &[u8]) -> Option<Moment> {
     let taken = unsafe { wisvalom_parse_from_rfc3339(text.as_ptr(), text.len(), seconds.start(), nanos.start()) };
     let (s, n) = (seconds.written(taken as usize), nanos.written(taken as usize));
     taken.then(|| Moment { seconds: s[0] as i64 - YEAR_1970, nanos: u32::try_from(n[0]).expect("nanoseconds") })
-}
-
-// Not exported yet.
-pub fn wgs84(_: f64, _: f64, _: f64) -> [f64; 3] {
-    unimplemented!()
 }
