@@ -1,5 +1,6 @@
-//! Pass files by seed, good and damaged.
+//! Pass files and position lines by seed, good and damaged.
 use crate::Set;
+use crate::cases;
 use crate::numbers::Random;
 
 fn time(r: &mut Random) -> String {
@@ -103,6 +104,97 @@ pub fn moment(r: &mut Random) -> Vec<u8> {
         }
     }
     if r.one_in(4) {
+        damage(r, &mut out);
+    }
+    out
+}
+
+/// A float as a text: as Rust prints it, with some places or an exponent, with a sign, zeros or a point that it does not need.
+fn written(r: &mut Random, v: f64) -> String {
+    if v.is_nan() {
+        return r.pick(&["nan", "NaN", "-nan", "+NAN", "nAn"]).to_string();
+    }
+    let sign = if v.is_sign_negative() { "-" } else { r.pick(&["", "", "+"]) };
+    if v.is_infinite() {
+        return format!("{sign}{}", r.pick(&["inf", "Inf", "infinity", "INFINITY", "iNfInItY"]));
+    }
+    let size = v.abs();
+    let plain = if size == 0.0 || size > 1e-6 && size < 1e15 { format!("{size}") } else { format!("{size:e}") };
+    let (whole, part) = plain.split_once('.').unwrap_or((&plain, ""));
+    let zeros = "0".repeat(r.below(6) as usize);
+    let text = match r.below(12) {
+        0 => format!("{size:e}"),
+        1 => format!("{size:E}"),
+        2 => format!("{size:.*}", r.below(8) as usize),
+        3 => format!("{zeros}{plain}"),
+        _ if plain.contains('e') => plain,
+        4 => format!("{whole}.{part}{zeros}"),
+        5 => format!(".{whole}{part}e{}{:02}", r.pick(&["", "+"]), whole.len()),
+        6 => format!("{whole}{part}E-{:02}", part.len()),
+        7 if whole == "0" => format!(".{part}"),
+        _ => plain,
+    };
+    format!("{sign}{text}")
+}
+
+/// So many bytes that are trimmed; now and then some that are not.
+fn blanks(r: &mut Random, n: u64) -> String {
+    let strange = r.one_in(12);
+    (0..n)
+        .map(|_| match strange && r.one_in(3) {
+            true => r.pick(&['\0', '\u{8}', '\u{e}', '\u{1c}', '\u{1f}', '!', '\u{7f}']),
+            false => r.pick(&[' ', ' ', '\t', '\n', '\u{b}', '\u{c}', '\r']),
+        })
+        .collect()
+}
+
+/// A position line, good or nearly so, with blanks and a line end, often of about 256 bytes; sometimes damaged.
+pub fn position(r: &mut Random) -> Vec<u8> {
+    let mut fields: Vec<String> = cases::geodetic(r).into_iter().map(|v| written(r, v)).collect();
+    let k = r.below(3) as usize;
+    match r.below(24) {
+        0 => fields.truncate(k),
+        1 => {
+            let more = if r.one_in(2) { String::new() } else { number(r) };
+            fields.insert(r.below(4) as usize, more);
+        }
+        2 => fields[k] = r.pick(&["", " ", "x", "-", "+", ".", "e1", "1e", "1;2", "0x1", "1_0", "infin", "1,0"]).to_string(),
+        3 => fields[k].insert(0, r.pick(&[' ', '\t', '\r', '\n'])),
+        4 => fields[k].push(r.pick(&[' ', '\t', '\r', '\n'])),
+        // At and past the ends of refusal 3.
+        5 | 6 => {
+            fields[k] = r.pick(&["1e30", "1e31", "1e-30", "1e-31", "1e00", "1e005", "0e31", "0e-99", "1e1000"]).to_string();
+            if r.one_in(2) {
+                fields[k] = format!("{:0>1$}", r.below(80), 18 + r.below(4) as usize);
+            }
+        }
+        7 => fields[k] = number(r),
+        8 => fields[k] = String::from_utf8_lossy(&decimal(r)).into_owned(),
+        _ => {}
+    }
+    let mut line = fields.join(",");
+    if r.one_in(3) {
+        let (before, after) = (r.below(3), r.below(3));
+        line = blanks(r, before) + &line + &blanks(r, after);
+    }
+    if r.one_in(5) {
+        let more = r.pick(&[255, 256, 256, 257, 258, 300u64]).saturating_sub(line.len() as u64);
+        let before = match r.below(3) {
+            0 => 0,
+            1 => more,
+            _ => r.below(more + 1),
+        };
+        line = blanks(r, before) + &line + &blanks(r, more - before);
+    }
+    if r.one_in(40) {
+        line = format!("{line}\n{}", r.pick(&["1,2,3", "#", "59.1,18.0,20", "x"]));
+    }
+    let mut out = line.into_bytes();
+    out.extend(r.pick(&["", "", "\n", "\n", "\r\n", "\r", "\r\r\n", "\n\n", "\n\r"]).bytes());
+    if r.one_in(20) {
+        out.insert(r.below(out.len() as u64 + 1) as usize, 128 + r.below(128) as u8);
+    }
+    if r.one_in(6) {
         damage(r, &mut out);
     }
     out

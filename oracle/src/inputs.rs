@@ -11,7 +11,7 @@ pub const KINDS: &[&str] = &[
     "power", "max", "min", "rem_euclid", "to_u64", "to_i64", "wrapping_mul", "draw", "gaussian", "monna", "unmonna", "padic",
     "history", "normal", "jd", "teme", "wgs84", "prop", "pred", "poly", "pca", "rss", "grad", "solve", "search",
     "residuals1", "residuals2", "step1", "step2", "steps1", "steps2", "fit", "lines", "checksum", "file",
-    "load", "store", "fit_lines", "determine", "parse", "put_fixed", "rfc3339",
+    "load", "store", "fit_lines", "determine", "parse", "put_fixed", "rfc3339", "position",
 ];
 
 /// What an answer of the kind begins with: a refusal, or 1 where something was taken.
@@ -235,6 +235,7 @@ pub fn fields(kind: &str, seed: u64, k: u64) -> Vec<u64> {
             l.float(v).word(places).word(r.pick(&[b' ', b'0', b'*', 255]) as u64).word(room).word(at).word(width)
         }
         "rfc3339" => l.bytes(&files::moment(r)),
+        "position" => l.bytes(&files::position(r)),
         "load" => {
             let seed = r.word();
             l.bytes(&files::stored(seed, &cases::set(r).set))

@@ -458,15 +458,25 @@ fn oversized(text: &str) -> bool {
         || exponent.parse::<u32>().is_ok_and(|e| e > 30)
 }
 
-/// What the line is to document 01: a refusal, or whether the original may read it.
-fn judged(line: &[u8]) -> Answer<bool> {
+/// An LF or CR LF at the end is no part of a line; a CR alone is.
+fn without_end(line: &[u8]) -> &[u8] {
+    line.strip_suffix(b"\r\n").or(line.strip_suffix(b"\n")).unwrap_or(line)
+}
+
+/// 1 or 2, or a line without its end as text without its outer blanks: of bytes up to 127 Rust trims 9 to 13 and 32.
+fn trimmed(line: &[u8]) -> Answer<&str> {
     if line.iter().any(|&b| b > 127) {
         return Err(1);
     }
     if line.len() > 256 {
         return Err(2);
     }
-    let text = std::str::from_utf8(line).unwrap().trim();
+    Ok(std::str::from_utf8(line).unwrap().trim())
+}
+
+/// What the line is to document 01: a refusal, or whether the original may read it.
+fn judged(line: &[u8]) -> Answer<bool> {
+    let text = trimmed(line)?;
     if let Some(header) = text.strip_prefix('#') {
         if let Some((key, value)) = header.split_once(':') {
             let value = value.trim();
@@ -498,7 +508,7 @@ pub fn file(bytes: &[u8]) -> Answer<File> {
     let mut read = Vec::new();
     let mut seen = false;
     for whole in bytes.split_inclusive(|&b| b == b'\n') {
-        let line = whole.strip_suffix(b"\r\n").or(whole.strip_suffix(b"\n")).unwrap_or(whole);
+        let line = without_end(whole);
         if judged(line)? {
             read.extend(whole);
         }
@@ -519,6 +529,20 @@ pub fn file(bytes: &[u8]) -> Answer<File> {
         times: p.points.iter().map(|x| nanos(x.time)).collect(),
         freqs: p.points.iter().map(|x| x.freq).collect(),
     })
+}
+
+/// A position line (document 02, [1]); the original has none. 1 and 2 come first. A line that is not three fields, all of which Rust parses, is 13 whatever
+/// their digits and exponents are; then comes 3, then the range.
+pub fn position(line: &[u8]) -> Answer<[f64; 3]> {
+    let fields: Vec<&str> = trimmed(without_end(line))?.split(',').collect();
+    let numbers: Vec<f64> = fields.iter().filter_map(|f| f.parse().ok()).collect();
+    if fields.len() != 3 || numbers.len() != 3 {
+        return Err(13);
+    }
+    if fields.iter().any(|f| oversized(f)) {
+        return Err(3);
+    }
+    wgs84(numbers[0], numbers[1], numbers[2])
 }
 
 /// A stored pass set (document 01, "A stored pass set has sizes first"); the original has none. Centres stand beside it.

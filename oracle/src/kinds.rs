@@ -114,6 +114,7 @@ pub fn answered(kind: &str, fields: &[u64]) -> Option<Line> {
         "file" => l.refused_or(&judge::file(&f.bytes()?), |l, f| {
             l.word(f.seen as u64).bytes(&f.name).float(f.center).ints(&f.times).list(&f.freqs)
         }),
+        "position" => l.refused_or(&judge::position(&f.bytes()?), |l, x| l.floats(x)),
         "load" => l.refused_or(&judge::load(&f.bytes()?), |l, s| {
             let counts: Vec<i64> = s.counts.iter().map(|&n| n as i64).collect();
             l.ints(&counts).ints(&s.times).list(&s.freqs)

@@ -10,7 +10,7 @@ pub const KINDS: &[&str] = &[
     "min", "rem_euclid", "to_u64", "to_i64", "wrapping_mul", "draw", "gaussian", "monna", "unmonna", "padic",
     "history", "normal", "jd", "teme", "wgs84", "prop", "pred", "poly", "pca", "rss", "grad", "solve", "residuals1",
     "residuals2", "step1", "step2", "steps1", "steps2", "lines", "checksum", "file", "load", "store", "parse", "put_fixed",
-    "rfc3339",
+    "rfc3339", "position",
 ];
 
 #[link(name = "exports", kind = "static")]
@@ -46,6 +46,7 @@ unsafe extern "C" {
     pub fn wisvalom_read_pass_file(
         file: *const u8, n: usize, times: *mut i64, n_times: usize, freqs: *mut f64, n_freqs: usize, numbers: *mut [usize; 4], center_freq: *mut f64,
     ) -> u32;
+    pub fn wisvalom_read_position(line: *const u8, n: usize, out: *mut [f64; 3]) -> u32;
     pub fn wisvalom_abs(v: f64) -> f64;
     pub fn wisvalom_max(v: f64, w: f64) -> f64;
     pub fn wisvalom_min(v: f64, w: f64) -> f64;
@@ -349,6 +350,10 @@ pub fn teme(jd: f64, s: [f64; 6]) -> [f64; 6] {
 
 pub fn wgs84(lat: f64, lon: f64, alt: f64) -> Answer<[f64; 3]> {
     lent(3, |out| unsafe { wisvalom_wgs84_to_ecef(lat, lon, alt, out as *mut [f64; 3]) }).map(|v| v.try_into().unwrap())
+}
+
+pub fn position(line: &[u8]) -> Answer<[f64; 3]> {
+    lent(3, |out| unsafe { wisvalom_read_position(line.as_ptr(), line.len(), out as *mut [f64; 3]) }).map(|v| v.try_into().unwrap())
 }
 
 /// Some places more than a call needs, by the size of what it is given, so that both are tried.
