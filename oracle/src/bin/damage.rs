@@ -1,5 +1,5 @@
 //! damage SEED COUNT [exact] [ENTRY..]: COUNT damaged byte inputs to each of the port's entry points that take bytes (file, load,
-//! lines, checksum, stored, parse, rfc3339), or to those named. The bytes and every output are lent between guards; after each call the guards, the bytes
+//! lines, checksum, stored, parse, rfc3339, position), or to those named. The bytes and every output are lent between guards; after each call the guards, the bytes
 //! and the places that the call had to leave alone are looked at, and its refusal is one that it may give. With `exact` each of them
 //! is lent from an allocation of just its size, for a run under valgrind, which then sees a read past an end too. Prints, for each
 //! entry point, the inputs by refusal; stops at the first fault.
@@ -13,7 +13,7 @@ use std::collections::BTreeMap;
 #[path = "../port.rs"]
 mod port;
 
-const ENTRIES: [&str; 7] = ["file", "load", "lines", "checksum", "stored", "parse", "rfc3339"];
+const ENTRIES: [&str; 8] = ["file", "load", "lines", "checksum", "stored", "parse", "rfc3339", "position"];
 
 struct Run {
     exact: bool,
@@ -182,6 +182,17 @@ impl Run {
         assert!(nanos.written(taken).iter().all(|&n| n < 1_000_000_000), "nanoseconds of {bytes:?}");
         0
     }
+
+    /// An accepted place is finite, and no coordinate is over 2^24 m in size.
+    fn position(&mut self) -> u32 {
+        let bytes = self.input();
+        let mut out = self.lend(3, port::PATTERN);
+        let refusal = self.with(&bytes, |b, n| unsafe { port::wisvalom_read_position(b, n, out.start() as *mut [f64; 3]) });
+        let place = out.written(if refusal == 0 { 3 } else { 0 });
+        assert!(place.iter().all(|v| v.abs() <= 16777216.0), "{place:?} of {bytes:?}");
+        assert!([0, 1, 2, 3, 13].contains(&refusal), "refusal {refusal} of {bytes:?}");
+        refusal
+    }
 }
 
 fn main() {
@@ -202,6 +213,7 @@ fn main() {
             .map(|k| match entry {
                 "parse" => files::decimal(&mut Random::new(k)),
                 "rfc3339" => files::moment(&mut Random::new(k)),
+                "position" => files::position(&mut Random::new(k)),
                 "load" | "stored" => files::stored(k, &simulator::realistic(k, 2 + k as usize % 4, 6 + k as usize % 40).set),
                 _ => files::file(seed.wrapping_mul(512).wrapping_add(k)),
             })
@@ -218,6 +230,7 @@ fn main() {
                 "stored" => run.stored(),
                 "parse" => run.parse(),
                 "rfc3339" => run.rfc3339(),
+                "position" => run.position(),
                 _ => panic!("no entry point {entry}"),
             };
             *refusals.entry(refusal).or_default() += 1;
