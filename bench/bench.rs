@@ -371,6 +371,21 @@ fn main() {
         timed!(patched_times, |_: &Sample, t: &(_, _)| patched::orbit::datetime_to_jd(t.1)),
         timed!(published_times, |_: &Sample, t: &(_, _)| published::orbit::datetime_to_jd(t.1)),
     ]);
+    // Numbers of their own, so that what follows is timed on the inputs of earlier tables.
+    let mut of_masts = Random::new(2);
+    let masts: Vec<[f64; 3]> =
+        (0..n).map(|_| [of_masts.between(-90.0, 90.0), of_masts.between(-180.0, 180.0), of_masts.between(0.0, 3000.0)]).collect();
+    bench("`wgs84_to_ecef`", rounds, n, [
+        kept(|| {
+            masts.iter().map(|m| {
+                let mut out = [0.0; 3];
+                unsafe { port::wisvalom_wgs84_to_ecef(m[0], m[1], m[2], &mut out) };
+                out
+            })
+        }),
+        kept(|| masts.iter().map(|m| patched::orbit::wgs84_to_ecef(m[0], m[1], m[2]))),
+        kept(|| masts.iter().map(|m| published::orbit::wgs84_to_ecef(m[0], m[1], m[2]))),
+    ]);
     bench("`propagate_ecef_at_time`", rounds, n, [
         over!(|s: &Sample| {
             let (e, mut out) = (&s.e, [0.0; 6]);
