@@ -144,6 +144,57 @@ fn main() {
         j::prop([7e6, 1.0, 0.0, 0.0], at(T, 1500), at(T, 0), at(T, 0)) == j::prop([7e6, 1.0, 0.0, 0.0], at(T, 1000), at(T, 0), at(T, 0)),
     );
 
+    // Masts' places. The cosine of a quarter turn is -0.0 here, that of its negative 0.0.
+    for (lat, lon, alt, said, in_rust) in [
+        (90.0, 0.0, 0.0, [-0.0, -0.0, 6356752.314245179], [3.9186209248144716e-10, 0.0, 6356752.314245179]),
+        (-90.0, 0.0, 0.0, [0.0, 0.0, -6356752.314245179], [3.9186209248144716e-10, 0.0, -6356752.314245179]),
+        (-90.0, 360.0, -500.0, [0.0, 0.0, -6356252.314245179], [3.918314763114685e-10, -9.597103265400437e-26, -6356252.314245179]),
+        (0.0, 0.0, 10000.0, [6388137.0, 0.0, 0.0], [6388137.0, 0.0, 0.0]),
+        (-0.0, -0.0, -0.0, [6378137.0, 0.0, 0.0], [6378137.0, -0.0, -0.0]),
+    ] {
+        t.same(&format!("wgs84 {lat} {lon} {alt}"), format!("{:?}", j::wgs84(lat, lon, alt)), format!("Ok({said:?})"));
+        t.same("the same by the platform", format!("{:?}", p::wgs84(lat, lon, alt)), format!("Ok({in_rust:?})"));
+    }
+    for (k, ends) in [[-90.0f64, 90.0], [-360.0, 360.0], [-500.0, 10000.0]].into_iter().enumerate() {
+        let refusal = |v: f64| {
+            let mut given = [59.1, 18.0, 20.0];
+            given[k] = v;
+            j::wgs84(given[0], given[1], given[2]).err().unwrap_or(0)
+        };
+        let [low, high] = ends;
+        let beside = [low.next_down(), low, low.next_up(), high.next_down(), high, high.next_up(), f64::NAN, f64::INFINITY, f64::NEG_INFINITY];
+        t.same(&format!("13 at {low} and {high} and beside them, NaN, infinite"), format!("{:?}", beside.map(refusal)), "[13, 0, 0, 0, 0, 13, 13, 13, 13]".into());
+    }
+    for (line, said) in [
+        ("90,0,0", 0),
+        ("90.00000000000001,0,0", 13),
+        ("90.000000000000001,0,0", 0),
+        ("59.1,18.0,20", 0),
+        (" \t59.1,18.0,20\u{b}\u{c}\r\n", 0),
+        ("\u{1c}59.1,18.0,20", 13),
+        ("59.1, 18.0,20", 13),
+        ("59.1 ,18.0,20", 13),
+        ("91,0,1e31", 3),
+        ("x,0,1e31", 13),
+        ("0,0,1e31,0", 13),
+        ("", 13),
+        ("1,2", 13),
+        ("1,2,3,", 13),
+        ("1,2,3\n1,2,3", 13),
+        ("nan,0,0", 13),
+        ("inf,0,0", 13),
+        ("0,0,1e005", 3),
+        ("00000000000000000001,0,0", 3),
+        ("0000000000000000001,0,0", 0),
+        ("59.1°,18.0,20", 1),
+    ] {
+        t.refusal(&format!("position {line:?}"), j::position(line.as_bytes()), said);
+    }
+    for (n, end, said) in [(256, "", 0), (257, "", 2), (256, "\n", 0), (256, "\r\n", 0), (257, "\n", 2), (257, "\r\n", 2), (256, "\r", 2), (255, "\r", 0), (255, "\r\r\n", 0)] {
+        t.refusal(&format!("position of {n} bytes and {end:?}"), j::position(format!("{:>n$}{end}", "1,2,3").as_bytes()), said);
+    }
+    t.refusal("position of 300 bytes and one above 127", j::position(&[[b' '; 300].as_slice(), b"1,2,3\x80"].concat()), 1);
+
     // Predictions.
     let e = [7e6, 1.0, 0.0, 0.0];
     t.refusal("pred 7e6 1 0 0 0 0 8e12", pred(e, at(0, 0), 8e12), 0);
