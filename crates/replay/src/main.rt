@@ -30,6 +30,7 @@ fn agrees(line: &[u8]) -> bool {
         || files::agrees(line)
         || replay_numbers::agrees(line)
         || replay_sums::agrees(line)
+        || replay_geodetic::agrees(line)
         || replay_fits::agrees(line)
 }
 
