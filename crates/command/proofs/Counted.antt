@@ -1,11 +1,11 @@
--- How many files the words name. Assumes nothing.
+-- How many files the words name, and where the first stands. Assumes nothing.
 use mathlib.Core.Path.{_≡_, refl, subst}
 use mathlib.Core.Bool.{Bool, true, false, cond}
-use Prim.Native.Nat.{ℕ, _-_, _≤_, zero-le}
+use Prim.Native.Nat.{ℕ, _+_, _-_, _≤_, zero-le}
 use native.Mathlib.Omega.{arith}
-use lib.Dec.{ltb}
+use lib.Dec.{ltb, lit≤}
 use borrow.Author.Tests.{ltb-false}
-use Rattle.command.specs.Words.{filesOf}
+use Rattle.command.specs.Words.{mastWords, filesOf, firstFile, receivedBefore}
 use Rattle.command.specs.declared.words.Files.{Files}
 use Rattle.command.specs.declared.words.Files.the-variants.{TooFew, TooMany, Named}
 
@@ -14,11 +14,26 @@ count TooFew = 0
 count TooMany = 0
 count (Named n) = n
 
-few : (a b : Bool) (words : ℕ) → ltb 21 words ≡ b → count (cond a TooFew (cond b TooMany (Named (words - 5)))) ≤ 16
-few true b words e = zero-le
-few false true words e = zero-le
-few false false words e = omega (arith, ltb-false 21 words e)
+few : (a b : Bool) (k words : ℕ) → ltb (k + 17) words ≡ b → count (cond a TooFew (cond b TooMany (Named (words - (k + 1))))) ≤ 16
+few true b k words e = zero-le
+few false true k words e = zero-le
+few false false k words e = omega (arith, ltb-false (k + 17) words e)
 
-pub at-most-sixteen : (words : ℕ) {n : ℕ} → filesOf words ≡ Named n → n ≤ 16
+pub at-most-sixteen : (line : Bool) (words : ℕ) {n : ℕ} → filesOf line words ≡ Named n → n ≤ 16
 unfolding filesOf
-at-most-sixteen words e = subst (λ (f : Files). count f ≤ 16) e (few (ltb words 6) (ltb 21 words) words refl)
+at-most-sixteen line words e = subst (λ (f : Files). count f ≤ 16) e (few (ltb words (mastWords line + 2)) (ltb (mastWords line + 17) words) (mastWords line) words refl)
+
+-- by its place the first file's word tells whether --as-received was said, with either way to say the mast
+pub received-told : (received line : Bool) → receivedBefore (firstFile received line) ≡ received
+unfolding receivedBefore firstFile
+received-told true true = refl
+received-told true false = refl
+received-told false true = refl
+received-told false false = refl
+
+pub at-most-sixth : (received line : Bool) → firstFile received line ≤ 6
+unfolding firstFile
+at-most-sixth true true = lit≤ tt
+at-most-sixth true false = lit≤ tt
+at-most-sixth false true = lit≤ tt
+at-most-sixth false false = lit≤ tt

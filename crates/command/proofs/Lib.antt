@@ -4,3 +4,4 @@ pub mod Sets
 pub mod Counted
 pub mod Reports
 pub mod AnyOrder
+pub mod Taken

@@ -1,22 +1,27 @@
 -- What the command's words say.
-use Prim.Native.Nat.{ℕ, _-_}
-use mathlib.Core.Bool.{Bool, cond, _||_}
+use Prim.Native.Nat.{ℕ, _+_, _-_, _%_}
+use mathlib.Core.Bool.{Bool, true, false, cond, _||_}
 use mathlib.Core.List.{List}
-use lib.Dec.{ltb}
+use lib.Dec.{ltb, eqb}
+use lib.ListN.{length}
 use mathlib.Core.Path.{_≡_, refl}
 use lib.Ieee.{Float, lt, ofBits, round}
-use Rattle.text.specs.Text.{bytes}
+use Rattle.text.specs.Text.{bytes, code}
 use Rattle.roots.specs.Root.{sqrtOf}
 use Rattle.float.specs.Constant.{decimal}
 use Rattle.float.specs.Ops.{_⊕_, _⊗_, bits, radiansOf}
+use Rattle.frame.specs.Rotation.{place}
 use Rattle.frame.specs.declared.Vec3.{Vec3}
+use Rattle.passes.specs.Text.{until}
+use Rattle.geodetic.specs.Line.{readPositionOf}
+use Rattle.geodetic.specs.declared.Position.{Position}
 use Rattle.decimal.specs.Read.{number}
 use Rattle.decimal.specs.declared.read.Number.{Number}
 use Rattle.decimal.specs.declared.read.Number.the-variants.{Nothing, Value, Refused}
 use Rattle.command.specs.declared.words.Files.{Files}
 use Rattle.command.specs.declared.words.Files.the-variants.{TooFew, TooMany, Named}
 use Rattle.command.specs.declared.words.Mast.{Mast}
-use Rattle.command.specs.declared.words.Mast.the-variants.{At, NoNumber, LongNumber}
+use Rattle.command.specs.declared.words.Mast.the-variants.{At, NoNumber, LongNumber, NoPlace}
 
 abbrev pub asReceived : List ℕ
 asReceived = bytes "--as-received"
@@ -43,9 +48,26 @@ centreDistance v = sqrtOf ((v .x ⊗ v .x ⊕ v .y ⊗ v .y) ⊕ v .z ⊗ v .z)
 unfoldable pub offGround : Vec3 → Bool
 offGround v = lt (centreDistance v) nearest || lt farthest (centreDistance v)
 
--- the program's name and four numbers, then 1 to 16 files
-unfoldable pub filesOf : ℕ → Files
-filesOf n = cond (ltb n 6) TooFew (cond (ltb 21 n) TooMany (Named (n - 5)))
+-- a first word with a comma is a position line
+unfoldable pub isLine : List ℕ → Bool
+isLine w = ltb (until (code ",") w) (length w)
+
+-- how many words say mast and inclination: a position line stands for X Y Z
+abbrev pub mastWords : Bool → ℕ
+mastWords true = 2
+mastWords false = 4
+
+-- the program's name and these, then 1 to 16 files
+unfoldable pub filesOf : Bool → ℕ → Files
+filesOf line n = let k = mastWords line in cond (ltb n (k + 2)) TooFew (cond (ltb (k + 17) n) TooMany (Named (n - (k + 1))))
+
+-- which word the first file is, behind --as-received or without it
+unfoldable pub firstFile : Bool → Bool → ℕ
+firstFile received line = cond received 2 1 + mastWords line
+
+-- --as-received moves it from an odd place to an even one (proofs/Counted.antt)
+unfoldable pub receivedBefore : ℕ → Bool
+receivedBefore first = eqb (first % 2) 0
 
 -- what follows from word k, if it is a number
 abbrev pub ifNumber : ℕ → Number → (Float → Mast) → Mast
@@ -54,11 +76,11 @@ ifNumber k (Value v) next = next v
 ifNumber k Refused next = LongNumber k
 
 -- the inclination is in degrees
-abbrev pub inclinationOf : Float → Float → Float → Number → Mast
-inclinationOf x y z i = ifNumber 4 i (λ v. At (record { x = x; y = y; z = z }) (radiansOf v))
+abbrev pub inclinationOf : Vec3 → Number → Mast
+inclinationOf v i = ifNumber 4 i (λ d. At v (radiansOf d))
 
 abbrev pub zOf : Float → Float → Number → Number → Mast
-zOf x y z i = ifNumber 3 z (λ v. inclinationOf x y v i)
+zOf x y z i = ifNumber 3 z (λ v. inclinationOf (place x y v) i)
 
 abbrev pub yOf : Float → Number → Number → Number → Mast
 yOf x y z i = ifNumber 2 y (λ v. zOf x v z i)
@@ -66,6 +88,10 @@ yOf x y z i = ifNumber 2 y (λ v. zOf x v z i)
 abbrev pub xOf : Number → Number → Number → Number → Mast
 xOf x y z i = ifNumber 1 x (λ v. yOf v y z i)
 
--- of four words; the first that is wrong answers
+-- what a position line and the word behind it say
+abbrev pub lineOf : Position → Number → Mast
+lineOf p i = cond (eqb (p .refusal) 0) (inclinationOf (p .ecef) i) (NoPlace (p .refusal))
+
+-- of four words, or of two where the first is a position line; the first that is wrong answers
 unfoldable pub mastOf : List ℕ → List ℕ → List ℕ → List ℕ → Mast
-mastOf x y z i = xOf (number x) (number y) (number z) (number i)
+mastOf x y z i = cond (isLine x) (lineOf (readPositionOf x) (number y)) (xOf (number x) (number y) (number z) (number i))

@@ -1,10 +1,14 @@
-// The command's words: maybe --as-received, then three Earth-fixed metres, an inclination in degrees, then 1 to 16 file names.
+// The command's words: maybe --as-received, then the mast by three Earth-fixed metres or by one position line, an inclination in degrees,
+// then 1 to 16 file names.
 ghost use mathlib.Core.Path.{_≡_};
+ghost use Prim.Native.Nat.{_≤_};
 ghost use Rattle.decimal.specs.Read.{spells};
-ghost use Rattle.command.specs.Words.{asReceived, offGround, filesOf, mastOf, xOf, yOf, zOf, inclinationOf};
+ghost use Rattle.command.specs.Words.{asReceived, offGround, isLine, mastWords, filesOf, firstFile, receivedBefore, mastOf, xOf, yOf, zOf, inclinationOf, lineOf};
 use decimal::read;
 use decimal::read::Number;
 use frame::Vec3;
+use geodetic::Position;
+use passes::pieces;
 
 // The word that says that frequencies are as a receiver hears them, in any case of its letters.
 pub fn is_as_received(w: &[u8]) -> bool
@@ -31,33 +35,67 @@ pub enum Files {
     Named(usize),
 }
 
-// The mast's position in metres and an inclination in radians; or which of the four words is no number, or is one with too many
-// digits or too large an exponent.
+// The mast's position in metres and an inclination in radians; or which of X, Y, Z and the inclination, counted from 1, is no number, or
+// is one with too many digits or too large an exponent; or the number by which a position line is refused.
 pub enum Mast {
     At(Vec3, f64),
     NoNumber(usize),
     LongNumber(usize),
+    NoPlace(u32),
 }
 
-// Of so many words, the program's own name among them.
-pub fn files_of(words: usize) -> Files
-    ensures { λ r. ⌜ r ≡ filesOf words ⌝ }
+// A first word with a comma is a position line.
+pub fn is_line(w: &[u8]) -> bool
+    ensures { λ r. ⌜ r ≡ isLine (now (w .entry)) ⌝ }
 {
-    if words < 6 {
+    pieces::until(b',', w) < w.len()
+}
+
+// How many words say mast and inclination.
+fn mast_words(line: bool) -> usize
+    ensures { λ r. ⌜ (r ≡ mastWords line) × (r ≤ 4) ⌝ }
+{
+    if line { 2 } else { 4 }
+}
+
+// Of so many words, the program's own name among them, of which the first may be a position line.
+pub fn files_of(line: bool, words: usize) -> Files
+    ensures { λ r. ⌜ r ≡ filesOf line words ⌝ }
+{
+    let k = mast_words(line);
+    if words < k + 2 {
         return Files::TooFew;
     }
-    if 21 < words {
+    if k + 17 < words {
         return Files::TooMany;
     }
-    Files::Named(words - 5)
+    Files::Named(words - (k + 1))
 }
 
-fn inclination_of(x: f64, y: f64, z: f64, i: Number) -> Mast
-    ensures { λ r. ⌜ r ≡ inclinationOf x y z i ⌝ }
+// Which word the first file is.
+pub fn first_file(received: bool, line: bool) -> usize
+    ensures { λ r. ⌜ r ≡ firstFile received line ⌝ }
+{
+    let k = mast_words(line);
+    if received {
+        return 2 + k;
+    }
+    1 + k
+}
+
+// Whether --as-received stands before the first file's word.
+pub fn is_received(first: usize) -> bool
+    ensures { λ r. ⌜ r ≡ receivedBefore first ⌝ }
+{
+    first % 2 == 0
+}
+
+fn inclination_of(v: Vec3, i: Number) -> Mast
+    ensures { λ r. ⌜ r ≡ inclinationOf v i ⌝ }
 {
     match i {
         Number::Nothing => Mast::NoNumber(4),
-        Number::Value(v) => Mast::At(Vec3 { x, y, z }, float::to_radians(v)),
+        Number::Value(d) => Mast::At(v, float::to_radians(d)),
         Number::Refused => Mast::LongNumber(4),
     }
 }
@@ -67,7 +105,7 @@ fn z_of(x: f64, y: f64, z: Number, i: Number) -> Mast
 {
     match z {
         Number::Nothing => Mast::NoNumber(3),
-        Number::Value(v) => inclination_of(x, y, v, i),
+        Number::Value(v) => inclination_of(Vec3 { x, y, z: v }, i),
         Number::Refused => Mast::LongNumber(3),
     }
 }
@@ -92,10 +130,23 @@ fn x_of(x: Number, y: Number, z: Number, i: Number) -> Mast
     }
 }
 
-// What the first four words say; the first that is wrong answers.
+// A position line's answer, and the inclination.
+fn line_of(p: Position, i: Number) -> Mast
+    ensures { λ r. ⌜ r ≡ lineOf p i ⌝ }
+{
+    if p.refusal == 0 {
+        return inclination_of(p.ecef, i);
+    }
+    Mast::NoPlace(p.refusal)
+}
+
+// What the first four words say, or, where the first is a position line, the first two; the first that is wrong answers.
 pub fn mast_of(x: &[u8], y: &[u8], z: &[u8], i: &[u8]) -> Mast
     ensures { λ r. ⌜ r ≡ mastOf (now (x .entry)) (now (y .entry)) (now (z .entry)) (now (i .entry)) ⌝ }
 {
+    if is_line(x) {
+        return line_of(geodetic::line::read_position(x), read::parse(y));
+    }
     let vx = read::parse(x);
     let vy = read::parse(y);
     let vz = read::parse(z);

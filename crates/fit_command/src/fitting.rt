@@ -5,15 +5,11 @@ ghost use Rattle.pass_set.specs.PassSet.{Sizes};
 ghost use Rattle.pass_checks.specs.Checks.{Whole};
 use command::report;
 use command::report::Biases;
+use command::words;
 use determination::Determination;
 use frame::Vec3;
 use libc::STDOUT_FILENO;
 use solution::SolvedOrbit;
-
-// Whether frequencies are as received, by the word before which the first file's stands.
-fn received(first: usize) -> bool {
-    first == 6
-}
 
 // Which of orbit and name cannot be printed: an orbit that can be under another name is not at fault.
 fn unprintable(orbit: SolvedOrbit) {
@@ -71,7 +67,10 @@ fn biases(
 ) {
     for p in 0..order.len() {
         let b = report::biases_of(counts, p, dts, dfs, df1s, df2s);
-        messages::pass(word_of(order[p], first), turned(received(first), b));
+        messages::pass(
+            word_of(order[p], first),
+            turned(words::is_received(first), b),
+        );
     }
 }
 
@@ -168,7 +167,7 @@ fn solve(
     let mut scratch = [0.0f64; 305936];
     let mut text = [0u8; 256];
     let d = outcome::outcome(
-        received(first),
+        words::is_received(first),
         counts,
         times,
         freqs,

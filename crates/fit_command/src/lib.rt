@@ -1,5 +1,5 @@
 // The command: fits one circular orbit to the passes in the files that its words name, and writes its name line and element lines to
-// standard output. Everything else goes to standard error. `fit_passes` and `fit_passes_refused` are this on two sets of words.
+// standard output. Everything else goes to standard error. `fit_passes`, `fit_passes_latitude` and `fit_passes_refused` are this on three sets of words.
 mod fitting;
 
 ghost use Prim.Native.Nat.{_≤_};
@@ -60,45 +60,69 @@ fn word(i: usize, out: &mut [u8]) -> usize
     n
 }
 
-// The four numbers, from word k on.
+// The same of the word that may be a position line; of one that is too long, as much as finds room, which is refused for its length.
+fn first_word(i: usize, out: &mut [u8]) -> usize
+    ensures { λ r. ⌜ Counts r (now (out .exit)) ⌝ }
+{
+    let n = os::arg(i, out);
+    let error = os::errno();
+    if error == libc::ENAMETOOLONG {
+        return out.len();
+    }
+    if error != 0 {
+        return 0;
+    }
+    n
+}
+
+// Whether word k is a position line.
+fn is_line(k: usize) -> bool {
+    let mut w = [0u8; 259];
+    let n = first_word(k, &mut w);
+    words::is_line(&w[..n])
+}
+
+// The words of mast and inclination, from word k on. A position line has 256 bytes at most, and a line end.
 fn mast(k: usize) -> Mast
     requires { ⌜ k ≤ 2 ⌝ }
 {
-    let mut x = [0u8; 64];
+    let mut x = [0u8; 259];
     let mut y = [0u8; 64];
     let mut z = [0u8; 64];
     let mut i = [0u8; 64];
-    let nx = word(k, &mut x);
+    let nx = first_word(k, &mut x);
     let ny = word(k + 1, &mut y);
     let nz = word(k + 2, &mut z);
     let ni = word(k + 3, &mut i);
     words::mast_of(&x[..nx], &y[..ny], &z[..nz], &i[..ni])
 }
 
-// The mast's words, from word k on, then the n files.
-fn numbers(k: usize, n: usize)
-    requires { ⌜ (n ≤ 16) × (k ≤ 2) ⌝ }
+// The mast's words, from word k on, then the n files from word `first` on.
+fn numbers(k: usize, first: usize, n: usize)
+    requires { ⌜ (n ≤ 16) × (k ≤ 2) × (first ≤ 6) ⌝ }
 {
     let m = mast(k);
     match m {
         Mast::At(rec_ecef, initial_i) => {
             messages::position(rec_ecef);
-            fit_files(k + 4, n, rec_ecef, initial_i);
+            fit_files(first, n, rec_ecef, initial_i);
         }
         Mast::NoNumber(k) => messages::no_number(k),
         Mast::LongNumber(k) => messages::long_number(k),
+        Mast::NoPlace(k) => messages::no_place(k),
     }
 }
 
-// Of so many words, the program's name among them and `--as-received` not, of which the first number is word k.
-fn words_from(k: usize, count: usize)
+// Of so many words, the program's name among them and `--as-received` not, of which the mast's first is word k.
+fn words_from(k: usize, received: bool, count: usize)
     requires { ⌜ k ≤ 2 ⌝ }
 {
-    let named = words::files_of(count);
+    let line = is_line(k);
+    let named = words::files_of(line, count);
     match named {
         Files::TooFew => messages::usage(),
         Files::TooMany => messages::too_many(),
-        Files::Named(n) => numbers(k, n),
+        Files::Named(n) => numbers(k, words::first_file(received, line), n),
     }
 }
 
@@ -117,9 +141,9 @@ pub fn run() {
     }
     if as_received() {
         messages::received();
-        words_from(2, count - 1);
+        words_from(2, true, count - 1);
         return;
     }
     messages::as_predicted();
-    words_from(1, count);
+    words_from(1, false, count);
 }

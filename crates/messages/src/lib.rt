@@ -10,9 +10,11 @@ use report_text::refused;
 
 pub fn usage() {
     write(b"usage: fit-passes [--as-received] X Y Z INCLINATION FILE..\n");
+    write(b"       fit-passes [--as-received] LAT,LON,HEIGHT INCLINATION FILE..\n");
     write(
-        b"X Y Z: the mast's Earth-fixed position in metres; INCLINATION: a first guess in degrees; FILE..: 1 to 16 pass files\n",
+        b"X Y Z: the mast's Earth-fixed position in metres; LAT,LON,HEIGHT: the same in degrees and metres above the ellipsoid of WGS 84, without blanks\n",
     );
+    write(b"INCLINATION: a first guess in degrees; FILE..: 1 to 16 pass files\n");
     write(
         b"--as-received: the frequencies fall as the satellite goes by, as a receiver hears them\n",
     );
@@ -72,6 +74,13 @@ pub fn long_number(k: usize) {
         k,
         b"has more than 19 digits, or an exponent outside -30 to 30",
     );
+}
+
+// A position line's refusal.
+pub fn no_place(k: u32) {
+    let mut text = [0u8; 256];
+    let n = refused::file_refusal(b"fit_passes: LAT,LON,HEIGHT", 0, k, &mut text, 0);
+    flush(&text, n);
 }
 
 pub fn refusal(k: u32) {

@@ -66,6 +66,13 @@ fn work_sentence(k: u32, out: &mut [u8], at: usize) -> usize
             at,
         );
     }
+    if k == 13 {
+        return append::text(
+            b"latitude, longitude and height are not three numbers with commas between them, within 90 and 360 degrees and -500 to 10000 m",
+            out,
+            at,
+        );
+    }
     if k == 21 {
         return append::text(b"too little memory was lent", out, at);
     }

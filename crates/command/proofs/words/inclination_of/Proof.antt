@@ -9,8 +9,7 @@ use Rattle.command.proofs.words.inclination_of.Tie as tie
 returns-2 : tie.Need-returns-2
 returns-2 c =
     let a = c .before .before .before .before .args in
-    ap (At (record { x = a .x; y = a .y; z = a .z })) (c .to-radians .ensures)
-    ∙ sym (ap (λ n. inclinationOf (a .x) (a .y) (a .z) n) (c .before .before .i .given .1))
+    ap (At (a .v)) (c .to-radians .ensures) ∙ sym (ap (λ n. inclinationOf (a .v) n) (c .before .before .i .given .1))
 
 pub inclination-of-spec : {M : Type 1} → statement M
 inclination-of-spec =

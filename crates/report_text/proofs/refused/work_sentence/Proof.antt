@@ -32,7 +32,12 @@ returns-5 c =
 returns-6 : tie.Need-returns-6
 unfolding workSentence
 returns-6 c =
-    rw (ne-eqb _ _ (c .before .before .before .before .before .before .before .before .before .if1 .left), ne-eqb _ _ (c .before .before .before .before .before .before .before .before .if2 .left), ne-eqb _ _ (c .before .before .before .before .before .before .before .if3 .left), ne-eqb _ _ (c .before .before .before .before .before .before .if4 .left), ne-eqb _ _ (c .before .before .before .before .before .if5 .left)) (c .before .before .text6 .ensures)
+    rw (ne-eqb _ _ (c .before .before .before .before .before .before .before .before .before .before .if1 .left), ne-eqb _ _ (c .before .before .before .before .before .before .before .before .before .if2 .left), ne-eqb _ _ (c .before .before .before .before .before .before .before .before .if3 .left), ne-eqb _ _ (c .before .before .before .before .before .before .before .if4 .left), ne-eqb _ _ (c .before .before .before .before .before .before .if5 .left), eq-eqb _ _ (c .before .before .before .before .before .if6 .taken)) (c .before .before .text6 .ensures)
+
+returns-7 : tie.Need-returns-7
+unfolding workSentence
+returns-7 c =
+    rw (ne-eqb _ _ (c .before .before .before .before .before .before .before .before .before .before .if1 .left), ne-eqb _ _ (c .before .before .before .before .before .before .before .before .before .if2 .left), ne-eqb _ _ (c .before .before .before .before .before .before .before .before .if3 .left), ne-eqb _ _ (c .before .before .before .before .before .before .before .if4 .left), ne-eqb _ _ (c .before .before .before .before .before .before .if5 .left), ne-eqb _ _ (c .before .before .before .before .before .if6 .left)) (c .before .before .text7 .ensures)
 
 pub work-sentence-spec : {M : Type 1} → statement M
 work-sentence-spec =
@@ -61,4 +66,8 @@ work-sentence-spec =
     (λ c. search needs)
     (λ c κs. search needs)
     (λ c. search needs)
-    returns-6)
+    returns-6
+    (λ c. search needs)
+    (λ c κs. search needs)
+    (λ c. search needs)
+    returns-7)
