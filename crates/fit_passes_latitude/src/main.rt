@@ -1,0 +1,4 @@
+// See `fit_command`.
+fn main() {
+    fit_command::run();
+}
