@@ -1,4 +1,5 @@
-/* The functions of libexports.a (rt staticlib exports), for C99, C++11 and other languages that call C.
+/* The functions of libexports.a (rt staticlib exports) and libexports_geodetic.a (rt staticlib exports_geodetic), for C99, C++11 and other languages
+ * that call C. Those of the second say so; all others are in the first.
  *
  * The quick way is the last part of this file: wisvalom_fit, with one struct for what goes in and one for what comes out. The flat functions
  * before it are what the library has.
@@ -37,7 +38,7 @@
 #include <string.h>
 
 /* The refusals. */
-#define WISVALOM_NON_ASCII 1      /* a pass file holds a byte above 127 */
+#define WISVALOM_NON_ASCII 1      /* a pass file or a position line holds a byte above 127 */
 #define WISVALOM_LONG_LINE 2      /* a line has more than 256 bytes, its end not counted */
 #define WISVALOM_NUMBER_SIZE 3    /* a number has more than 19 digits, or an exponent of over two digits or outside -30 to 30 */
 #define WISVALOM_MOMENT_RANGE 4   /* a moment is outside 1957 to 2056, or has more than 999,999,999 nanoseconds */
@@ -49,6 +50,7 @@
 #define WISVALOM_FEW_SAMPLES 10   /* fewer samples than four and one for each pass that has any */
 #define WISVALOM_UNPRINTABLE 11   /* the orbit (finite, 6,500 to 20,000 km) or the name (24 bytes, each 32 to 126) does not fit the lines */
 #define WISVALOM_LIMITS 12        /* a base outside 2 to 7, digits above 16, a history above 64 numbers or a matrix above 68 rows */
+#define WISVALOM_POSITION_RANGE 13 /* a latitude, longitude or height is NaN or out of range, or a line is not three such numbers */
 #define WISVALOM_SHORT_MEMORY 21  /* a lent output or scratch is too short */
 #define WISVALOM_SMALL_PIVOT 22   /* the solver's chosen pivot is below 1e-12 in size */
 #define WISVALOM_FAR_MOMENT 23    /* a moment of a prediction is over 8,000,000,000,000 s from 1970 */
@@ -115,6 +117,17 @@ uint32_t wisvalom_datetime_to_jd(int64_t seconds, uint32_t nanos, double *out);
 /* From the inertial to the Earth-fixed frame at a Julian date (days): position x, y, z (m) to out[0..2], velocity vx, vy, vz (m/s) to
  * out[3..5]. */
 void wisvalom_teme_to_ecef(double jd, double x, double y, double z, double vx, double vy, double vz, double out[6]);
+
+/* In libexports_geodetic.a: the Earth-fixed x, y, z (m), to out[0..2], of latitude and longitude (degrees, north and east positive) and height (m)
+ * above the ellipsoid of WGS 84. The fit takes them as they are. Refuses: 13, a latitude beyond 90, a longitude beyond 360 in size, a height
+ * outside -500 to 10,000, or a NaN; the ends are accepted. */
+uint32_t wisvalom_wgs84_to_ecef(double lat_deg, double lon_deg, double alt_m, double out[3]);
+
+/* In libexports_geodetic.a: the same of one line of text, "latitude,longitude,height", its numbers written as in a pass file. Blanks (9 to 13 and 32) are
+ * trimmed at the line's ends, where its end may stand too, and not beside commas: "59.1, 18.0,20" is 13. Refuses, in this order: 1, a byte
+ * above 127; 2, over 256 bytes, an LF or CR LF at the very end not counted; 3, three numbers of which one has too many digits or too large an
+ * exponent; 13, any other line that is not three numbers, or a number beyond the limits of wisvalom_wgs84_to_ecef. */
+uint32_t wisvalom_read_position(const uint8_t *line, size_t n_line, double out[3]);
 
 /* Position (m) and velocity (m/s) on a circular orbit at the moment t_orbit, Earth-fixed by the Earth's rotation at the moment t_rotate:
  * out[0..2] and out[3..5]. Refuses: 4. */

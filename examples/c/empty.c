@@ -28,6 +28,7 @@ int main(void)
 
     EXPECT(wisvalom_read_pass_file(NULL, 0, NULL, 0, NULL, 0, numbers, &centre), 0);
     EXPECT(numbers[0] + numbers[3], 0);
+    EXPECT(wisvalom_read_position(NULL, 0, out), WISVALOM_POSITION_RANGE);
     EXPECT(wisvalom_parse(NULL, 0, &taken, out), 0);
     EXPECT(taken, 0);
     EXPECT(wisvalom_parse_from_rfc3339(NULL, 0, &seconds, &nanos), false);

@@ -2,9 +2,10 @@
  *
  *   fit_stored store SET FILE..                          reads 1 to 16 pass files and writes them as one stored pass set
  *   fit_stored fit SET CENTRE X Y Z INCLINATION NAME     loads the set, fits an orbit and prints its lines
+ *   fit_stored fit SET CENTRE LAT,LON,HEIGHT INCLINATION NAME
  *
  * CENTRE is the centre frequency of every pass in Hz (a stored set has none; `store` says the files' own), X Y Z the mast's Earth-fixed
- * position in metres, INCLINATION a first guess in degrees. Ends with 1 where something is refused; nothing is then printed.
+ * position in metres, LAT,LON,HEIGHT the same in degrees and metres, INCLINATION a first guess in degrees. Ends with 1 where something is refused; nothing is then printed.
  */
 #include <stdio.h>
 #include <stdlib.h>
@@ -106,6 +107,20 @@ static int fit(const char *path, double centre, struct wisvalom_receiver mast, d
     return 0;
 }
 
+/* The mast of a position line. */
+static struct wisvalom_receiver mast_of(const char *line)
+{
+    double out[3];
+    uint32_t k = wisvalom_read_position((const uint8_t *)line, strlen(line), out);
+    struct wisvalom_receiver mast;
+    if (k)
+        exit(refused(line, k));
+    mast.x = out[0];
+    mast.y = out[1];
+    mast.z = out[2];
+    return mast;
+}
+
 int main(int argc, char **argv)
 {
     if (argc > 3 && !strcmp(argv[1], "store"))
@@ -114,6 +129,9 @@ int main(int argc, char **argv)
         struct wisvalom_receiver mast = {number(argv[4]), number(argv[5]), number(argv[6])};
         return fit(argv[2], number(argv[3]), mast, number(argv[7]), argv[8]);
     }
-    fprintf(stderr, "usage: fit_stored store SET FILE..\n       fit_stored fit SET CENTRE X Y Z INCLINATION NAME\n");
+    if (argc == 7 && !strcmp(argv[1], "fit"))
+        return fit(argv[2], number(argv[3]), mast_of(argv[4]), number(argv[5]), argv[6]);
+    fprintf(stderr, "usage: fit_stored store SET FILE..\n       fit_stored fit SET CENTRE X Y Z INCLINATION NAME\n"
+                    "       fit_stored fit SET CENTRE LAT,LON,HEIGHT INCLINATION NAME\n");
     return 2;
 }
