@@ -1,4 +1,4 @@
-//! The port, through its static libraries (`exports`, and `probes` for the calls that only the comparison makes), in the shape of
+//! The port, through its static libraries (`exports`, `exports_geodetic`, and `probes` for the calls that only the comparison makes), in the shape of
 //! `judge.rs`: the kinds of lines are made by the same code for both. Every output is lent between guards and filled with a pattern before the call; after it, whatever should have
 //! been left alone is looked at. KINDS are compared where none is named: searches and fits, which take long, are not among them, nor is what the port does not export.
 #![allow(dead_code)]
@@ -46,7 +46,6 @@ unsafe extern "C" {
     pub fn wisvalom_read_pass_file(
         file: *const u8, n: usize, times: *mut i64, n_times: usize, freqs: *mut f64, n_freqs: usize, numbers: *mut [usize; 4], center_freq: *mut f64,
     ) -> u32;
-    pub fn wisvalom_read_position(line: *const u8, n: usize, out: *mut [f64; 3]) -> u32;
     pub fn wisvalom_abs(v: f64) -> f64;
     pub fn wisvalom_max(v: f64, w: f64) -> f64;
     pub fn wisvalom_min(v: f64, w: f64) -> f64;
@@ -63,7 +62,6 @@ unsafe extern "C" {
     pub fn wisvalom_next_f64(state: u64, next: *mut u64) -> f64;
     pub fn wisvalom_next_gaussian(state: u64, next: *mut u64) -> f64;
     pub fn wisvalom_teme_to_ecef(jd: f64, x: f64, y: f64, z: f64, vx: f64, vy: f64, vz: f64, out: *mut f64);
-    pub fn wisvalom_wgs84_to_ecef(lat_deg: f64, lon_deg: f64, alt_m: f64, out: *mut [f64; 3]) -> u32;
     pub fn wisvalom_get_pred_pca_times(
         a: f64, i: f64, raan: f64, u0: f64, epoch: i64, epoch_nanos: u32, x: f64, y: f64, z: f64,
         counts: *const u32, passes: usize, times: *const i64, samples: usize,
@@ -127,6 +125,12 @@ unsafe extern "C" {
     pub fn wisvalom_parse(text: *const u8, n: usize, taken: *mut u32, out: *mut f64) -> u32;
     pub fn wisvalom_put_fixed(v: f64, places: usize, pad: u8, out: *mut u8, room: usize, at: usize, width: usize) -> bool;
     pub fn wisvalom_parse_from_rfc3339(text: *const u8, n: usize, seconds: *mut u64, nanos: *mut u64) -> bool;
+}
+
+#[link(name = "exports_geodetic", kind = "static")]
+unsafe extern "C" {
+    pub fn wisvalom_wgs84_to_ecef(lat_deg: f64, lon_deg: f64, alt_m: f64, out: *mut [f64; 3]) -> u32;
+    pub fn wisvalom_read_position(line: *const u8, n: usize, out: *mut [f64; 3]) -> u32;
 }
 
 #[link(name = "probes", kind = "static")]
