@@ -89,9 +89,9 @@ abbrev pub xOf : Number → Number → Number → Number → Mast
 xOf x y z i = ifNumber 1 x (λ v. yOf v y z i)
 
 -- what a position line and the word behind it say
-abbrev pub lineOf : Position → Number → Mast
-lineOf p i = cond (eqb (p .refusal) 0) (inclinationOf (p .ecef) i) (NoPlace (p .refusal))
+abbrev pub lineMast : Position → Number → Mast
+lineMast p i = cond (eqb (p .refusal) 0) (inclinationOf (p .ecef) i) (NoPlace (p .refusal))
 
 -- of four words, or of two where the first is a position line; the first that is wrong answers
 unfoldable pub mastOf : List ℕ → List ℕ → List ℕ → List ℕ → Mast
-mastOf x y z i = cond (isLine x) (lineOf (readPositionOf x) (number y)) (xOf (number x) (number y) (number z) (number i))
+mastOf x y z i = cond (isLine x) (lineMast (readPositionOf x) (number y)) (xOf (number x) (number y) (number z) (number i))

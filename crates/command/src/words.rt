@@ -3,7 +3,7 @@
 ghost use mathlib.Core.Path.{_≡_};
 ghost use Prim.Native.Nat.{_≤_};
 ghost use Rattle.decimal.specs.Read.{spells};
-ghost use Rattle.command.specs.Words.{asReceived, offGround, isLine, mastWords, filesOf, firstFile, receivedBefore, mastOf, xOf, yOf, zOf, inclinationOf, lineOf};
+ghost use Rattle.command.specs.Words.{asReceived, offGround, isLine, mastWords, filesOf, firstFile, receivedBefore, mastOf, xOf, yOf, zOf, inclinationOf, lineMast};
 use decimal::read;
 use decimal::read::Number;
 use frame::Vec3;
@@ -132,7 +132,7 @@ fn x_of(x: Number, y: Number, z: Number, i: Number) -> Mast
 
 // A position line's answer, and the inclination.
 fn line_of(p: Position, i: Number) -> Mast
-    ensures { λ r. ⌜ r ≡ lineOf p i ⌝ }
+    ensures { λ r. ⌜ r ≡ lineMast p i ⌝ }
 {
     if p.refusal == 0 {
         return inclination_of(p.ecef, i);

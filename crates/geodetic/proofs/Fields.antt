@@ -2,40 +2,39 @@
 use mathlib.Core.Path.{_≡_, refl, sym, ap, _∙_}
 use mathlib.Core.Bool.{Bool, true, false, cond}
 use mathlib.Core.List.{List, [], _∷_}
-use Prim.Native.Nat.{ℕ, suc, _+_, _-_, _<_}
-use native.Mathlib.Numerals.{add-one}
+use Prim.Native.Nat.{ℕ, suc, _-_, _<_}
 use native.Mathlib.Omega.{arith}
 use lib.Dec.{eqb}
 use lib.ListN.{length, getD, take, drop}
 use borrow.Author.Tests.{eq-eqb, ne-eqb}
 use Rattle.text.specs.Text.{code}
 use Rattle.passes.specs.Text.{until}
-use Rattle.geodetic.specs.Line.{sizeOf, before, fieldsOf}
+use Rattle.geodetic.specs.Line.{lineSize, before, fieldsOf}
 
 -- ---- the size
 module _ (l : List ℕ) where
-  pub size-empty : length l ≡ 0 → 0 ≡ sizeOf l
-  unfolding sizeOf
+  pub size-empty : length l ≡ 0 → 0 ≡ lineSize l
+  unfolding lineSize
   size-empty e = go l e
     where
       go : (l : List ℕ) → length l ≡ 0 → 0 ≡ cond (eqb (getD l (length l - 1) 0) 10) (cond (eqb (getD l (length l - 2) 0) 13) (length l - 2) (length l - 1)) (length l)
       go [] e = refl
       go (c ∷ l) e = absurd (omega arith)
 
-  pub size-open : (getD l (length l - 1) 0 ≡ 10 → ⊥) → length l ≡ sizeOf l
-  unfolding sizeOf
+  pub size-open : (getD l (length l - 1) 0 ≡ 10 → ⊥) → length l ≡ lineSize l
+  unfolding lineSize
   size-open e = simp (ne-eqb (getD l (length l - 1) 0) 10 e)
 
-  pub size-lf : getD l (length l - 1) 0 ≡ 10 → (getD l (length l - 2) 0 ≡ 13 → ⊥) → length l - 1 ≡ sizeOf l
-  unfolding sizeOf
+  pub size-lf : getD l (length l - 1) 0 ≡ 10 → (getD l (length l - 2) 0 ≡ 13 → ⊥) → length l - 1 ≡ lineSize l
+  unfolding lineSize
   size-lf e f = simp (eq-eqb (getD l (length l - 1) 0) 10 e, ne-eqb (getD l (length l - 2) 0) 13 f)
 
-  pub size-crlf : getD l (length l - 1) 0 ≡ 10 → getD l (length l - 2) 0 ≡ 13 → length l - 2 ≡ sizeOf l
-  unfolding sizeOf
+  pub size-crlf : getD l (length l - 1) 0 ≡ 10 → getD l (length l - 2) 0 ≡ 13 → length l - 2 ≡ lineSize l
+  unfolding lineSize
   size-crlf e f = simp (eq-eqb (getD l (length l - 1) 0) 10 e, eq-eqb (getD l (length l - 2) 0) 13 f)
 
 -- a line end alone: its byte is no CR
-pub size-one : (l : List ℕ) → length l ≡ 1 → getD l (length l - 1) 0 ≡ 10 → 0 ≡ sizeOf l
+pub size-one : (l : List ℕ) → length l ≡ 1 → getD l (length l - 1) 0 ≡ 10 → 0 ≡ lineSize l
 size-one l n e =
     let z : length l - 2 ≡ length l - 1 = omega arith in
     let y : 0 ≡ length l - 1 = omega arith in

@@ -18,8 +18,8 @@ use Rattle.decimal.proofs.Grammar.{Said, nothing, this, all-grammar, only-gramm
 use Rattle.passes.specs.Text.{blank, blanks, keepTrimmed, trimEnd, trim, ascii}
 use Rattle.refusal.specs.Numbers as refusal
 use Rattle.refusal.specs.Order.{Refusal, first, _if_, unless}
-use Rattle.geodetic.specs.Ellipsoid.{outside, offLimits, zeros, located, earthFixed, wgs84ToEcefOf}
-use Rattle.geodetic.specs.Line.{sizeOf, before, fieldsOf, numbersOf, valueOf, checks, placeOf, fromNumbers, lineRefusal, readPositionOf}
+use Rattle.geodetic.specs.Ellipsoid.{outside, offLimits, refusedBy, located, earthFixed, wgs84ToEcefOf}
+use Rattle.geodetic.specs.Line.{lineSize, before, fieldsOf, fieldNumbers, fieldValue, checks, placeOf, fromNumbers, lineRefusal, readPositionOf}
 use Rattle.geodetic.specs.Lines.{AllBlank, no-blank, blank-first, PositionLine, Says, ReaderTotal}
 use Rattle.geodetic.specs.declared.Position.{Position}
 
@@ -245,9 +245,9 @@ text-fields : {a b c : List ℕ} → Each Plain a → Each Plain b → Each Plai
 text-fields {a = a} {b = b} {c = c} A B C = fields-comma A (b ++ 44 ∷ c) ∙ ap (λ (x : List (List ℕ)). a ∷ x) (fields-comma B c ∙ ap (λ (x : List (List ℕ)). b ∷ x) (fields-last C))
 
 -- the bytes' own checks passed, the numbers decide
-clear-line : (l : List ℕ) → ascii l ≡ true → sizeOf l ≤ 256 → readPositionOf l ≡ fromNumbers (numbersOf l)
+clear-line : (l : List ℕ) → ascii l ≡ true → lineSize l ≤ 256 → readPositionOf l ≡ fromNumbers (fieldNumbers l)
 unfolding readPositionOf lineRefusal fromNumbers
-clear-line l a s = simp (a, le-ltb 256 (sizeOf l) s)
+clear-line l a s = simp (a, le-ltb 256 (lineSize l) s)
 
 three-values : (lat lon alt : Float) → offLimits lat lon alt ≡ false → fromNumbers (Value lat ∷ Value lon ∷ Value alt ∷ []) ≡ wgs84ToEcefOf lat lon alt
 unfolding fromNumbers
@@ -268,7 +268,7 @@ reader-total-called {l = l} {lat = lat} {lon = lon} {alt = alt} line =
     let is : l ≡ line .before ++ (text ++ line .after) = line .is ∙ flat (line .before) (line .latitude) (line .longitude) (line .height) (line .after) in
     let clean : ascii l ≡ true = ap ascii is ∙ each-ascii (each-append (blank-ascii (line .blank-before)) (each-append (each-map visible-ascii seen) (blank-ascii (line .blank-after)))) in
     let trimmed : trim l ≡ text = ap trim is ∙ trim-visible (line .blank-before) seen (line .blank-after) in
-    let numbers : numbersOf l ≡ Value lat ∷ Value lon ∷ Value alt ∷ [] =
+    let numbers : fieldNumbers l ≡ Value lat ∷ Value lon ∷ Value alt ∷ [] =
     ap (λ (x : List ℕ). map number (fieldsOf x)) trimmed ∙ ap (map number) (text-fields A B C)
     ∙ (λ i. all-grammar (line .latitude-is) i ∷ all-grammar (line .longitude-is) i ∷ all-grammar (line .height-is) i ∷ []) in
     clear-line l clean (line .size) ∙ ap fromNumbers numbers ∙ three-values lat lon alt (line .inside)
@@ -280,8 +280,8 @@ reader-total-accepts {lat = lat} {lon = lon} {alt = alt} line = reader-total-cal
 -- ---- from the reader to a position line
 
 -- an answer whose refusal is 0 is not the refused one
-unless-zero : (k : ℕ) (x : Position) → unless zeros k x .refusal ≡ 0 → k ≡ 0
-unfolding zeros
+unless-zero : (k : ℕ) (x : Position) → unless refusedBy k x .refusal ≡ 0 → k ≡ 0
+unfolding refusedBy
 unless-zero zero x e = refl
 unless-zero (suc n) x e = e
 
@@ -305,17 +305,17 @@ clear (r ∷ rs) n e = let m = and-true (ltb 0 (r .number)) (numbered rs) n in g
 
 -- without a refusal: at most 256 bytes, and three numbers inside 13's limits
 record Unrefused (l : List ℕ) (ns : List Number) : Type 0 where
-  pub size : sizeOf l ≤ 256
+  pub size : lineSize l ≤ 256
   pub three : length ns ≡ 3
-  pub inside : offLimits (valueOf (getD ns 0 Nothing)) (valueOf (getD ns 1 Nothing)) (valueOf (getD ns 2 Nothing)) ≡ false
+  pub inside : offLimits (fieldValue (getD ns 0 Nothing)) (fieldValue (getD ns 1 Nothing)) (fieldValue (getD ns 2 Nothing)) ≡ false
 
-unrefused : (l : List ℕ) → lineRefusal l ≡ 0 → Unrefused l (numbersOf l)
+unrefused : (l : List ℕ) → lineRefusal l ≡ 0 → Unrefused l (fieldNumbers l)
 unfolding lineRefusal
 unrefused l e =
-    let ns = numbersOf l in
-    let c = clear ((refusal.non-ascii if not (ascii l)) ∷ (refusal.long-line if ltb 256 (sizeOf l)) ∷ checks ns) refl e in
+    let ns = fieldNumbers l in
+    let c = clear ((refusal.non-ascii if not (ascii l)) ∷ (refusal.long-line if ltb 256 (lineSize l)) ∷ checks ns) refl e in
     let d = or-false (not (eqb (length ns) 3)) _ (c .1 .1 .1 .0) in
-    record { size = ltb-false 256 (sizeOf l) (c .1 .0); three = eqb-true (length ns) 3 (not-false (eqb (length ns) 3) (d .0)); inside = d .1 }
+    record { size = ltb-false 256 (lineSize l) (c .1 .0); three = eqb-true (length ns) 3 (not-false (eqb (length ns) 3) (d .0)); inside = d .1 }
 
 -- three fields and no more
 record Three (fs : List (List ℕ)) : Type 0 where
@@ -332,7 +332,7 @@ three (a ∷ b ∷ c ∷ []) e = record { lat = a; lon = b; alt = c; is = refl }
 three (a ∷ b ∷ c ∷ d ∷ fs) e = absurd (omega arith)
 
 -- a field inside limits is a number of the grammar, and has a value
-valued : {f : List ℕ} {n : Number} (lo hi : Float) → Said (Written f) n → outside lo hi (valueOf n) ≡ false → Written f (Value (valueOf n))
+valued : {f : List ℕ} {n : Number} (lo hi : Float) → Said (Written f) n → outside lo hi (fieldValue n) ≡ false → Written f (Value (fieldValue n))
 unfolding outside isNan
 valued lo hi nothing e = absurd (true≢false e)
 valued lo hi (this {v = Nothing} w) e = absurd (true≢false e)
@@ -341,15 +341,15 @@ valued lo hi (this {v = Refused} w) e = absurd (true≢false e)
 
 -- three fields that are numbers of the grammar, each with a value
 record Values (a b c : List ℕ) : Type 0 where
-  pub latitude-is : Written a (Value (valueOf (number a)))
-  pub longitude-is : Written b (Value (valueOf (number b)))
-  pub height-is : Written c (Value (valueOf (number c)))
+  pub latitude-is : Written a (Value (fieldValue (number a)))
+  pub longitude-is : Written b (Value (fieldValue (number b)))
+  pub height-is : Written c (Value (fieldValue (number c)))
 
-values : (a b c : List ℕ) → offLimits (valueOf (number a)) (valueOf (number b)) (valueOf (number c)) ≡ false → Values a b c
+values : (a b c : List ℕ) → offLimits (fieldValue (number a)) (fieldValue (number b)) (fieldValue (number c)) ≡ false → Values a b c
 unfolding offLimits
 values a b c e =
-    let p = or-false (outside _ _ (valueOf (number a))) _ e in
-    let q = or-false (outside _ _ (valueOf (number b))) _ (p .1) in
+    let p = or-false (outside _ _ (fieldValue (number a))) _ e in
+    let q = or-false (outside _ _ (fieldValue (number b))) _ (p .1) in
     record {
       latitude-is = valued _ _ (only-grammar a) (p .0);
       longitude-is = valued _ _ (only-grammar b) (q .0);
@@ -365,17 +365,17 @@ split l t e = subst (Ends (drop (blanks l) l)) e (end-cut (drop (blanks l) l))
 pub reader-total-only : (l : List ℕ) → readPositionOf l .refusal ≡ 0 → Says l (readPositionOf l)
 unfolding readPositionOf
 reader-total-only l e =
-    let ns = numbersOf l in
+    let ns = fieldNumbers l in
     let zero-refusal : lineRefusal l ≡ 0 = unless-zero (lineRefusal l) (placeOf ns) e in
     let u = unrefused l zero-refusal in
     let f = three (fieldsOf (trim l)) (u .three) in
-    let inside = subst (λ (fs : List (List ℕ)). offLimits (valueOf (getD (map number fs) 0 Nothing)) (valueOf (getD (map number fs) 1 Nothing)) (valueOf (getD (map number fs) 2 Nothing)) ≡ false) (f .is) (u .inside) in
+    let inside = subst (λ (fs : List (List ℕ)). offLimits (fieldValue (getD (map number fs) 0 Nothing)) (fieldValue (getD (map number fs) 1 Nothing)) (fieldValue (getD (map number fs) 2 Nothing)) ≡ false) (f .is) (u .inside) in
     let v = values (f .lat) (f .lon) (f .alt) inside in
     let s = split l (f .lat ++ 44 ∷ (f .lon ++ 44 ∷ f .alt)) (three-joined (trim l) (f .lat) (f .lon) (f .alt) (f .is)) in
     record {
-      lat = valueOf (number (f .lat));
-      lon = valueOf (number (f .lon));
-      alt = valueOf (number (f .alt));
+      lat = fieldValue (number (f .lat));
+      lon = fieldValue (number (f .lon));
+      alt = fieldValue (number (f .alt));
       line =
           record {
             before = take (blanks l) l;
@@ -392,7 +392,7 @@ reader-total-only l e =
             size = u .size;
             inside = inside;
           };
-      is = ap (λ (k : ℕ). unless zeros k (placeOf ns)) zero-refusal ∙ ap (λ (fs : List (List ℕ)). placeOf (map number fs)) (f .is);
+      is = ap (λ (k : ℕ). unless refusedBy k (placeOf ns)) zero-refusal ∙ ap (λ (fs : List (List ℕ)). placeOf (map number fs)) (f .is);
     }
 
 -- A line is accepted exactly where it is a position line.

@@ -1,5 +1,5 @@
--- A place on WGS 84's ellipsoid, by latitude and longitude in degrees and height in metres, in Earth-fixed metres; and refusal 13. Axis and
--- flattening are WGS 84's (NIMA TR 8350.2, table 3.1), the formulae those of its section 4.2 in the Rust's order.
+-- A place on WGS 84's ellipsoid, by latitude and longitude in degrees and height in metres, in Earth-fixed metres; and refusal 13. Axis and flattening
+-- are the Rust's, which document 02 [1] makes the definition (NIMA TR 8350.2 has the same), and the formulae stand in the Rust's order.
 use mathlib.Core.Path.{_≡_, refl}
 use mathlib.Core.Bool.{Bool, _||_}
 use mathlib.Core.List.{[], _∷_}
@@ -54,11 +54,11 @@ offLimits lat lon alt =
     || (outside (neg (decimal 360 0)) (decimal 360 0) lon || outside (neg (decimal 500 0)) (decimal 10000 0) alt)
 
 -- the number of a refusal, and zeros
-unfoldable pub zeros : ℕ → Position
-zeros k = record { refusal = k; ecef = place (bits 0) (bits 0) (bits 0) }
+unfoldable pub refusedBy : ℕ → Position
+refusedBy k = record { refusal = k; ecef = place (bits 0) (bits 0) (bits 0) }
 
 abbrev pub located : Vec3 → Position
 located v = record { refusal = 0; ecef = v }
 
 unfoldable pub wgs84ToEcefOf : Float → Float → Float → Position
-wgs84ToEcefOf lat lon alt = unless zeros (first ((refusal.position-range if offLimits lat lon alt) ∷ [])) (located (earthFixed lat lon alt))
+wgs84ToEcefOf lat lon alt = unless refusedBy (first ((refusal.position-range if offLimits lat lon alt) ∷ [])) (located (earthFixed lat lon alt))

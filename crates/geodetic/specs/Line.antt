@@ -12,12 +12,12 @@ use Rattle.decimal.specs.declared.read.Number.the-variants.{Nothing, Value, Ref
 use Rattle.passes.specs.Text.{trim, ascii}
 use Rattle.refusal.specs.Numbers as refusal
 use Rattle.refusal.specs.Order.{Refusal, first, _if_, unless}
-use Rattle.geodetic.specs.Ellipsoid.{offLimits, zeros, wgs84ToEcefOf}
+use Rattle.geodetic.specs.Ellipsoid.{offLimits, refusedBy, wgs84ToEcefOf}
 use Rattle.geodetic.specs.declared.Position.{Position}
 
 -- how many bytes a line has without its end: an LF, or a CR and an LF, behind everything else
-unfoldable pub sizeOf : List ℕ → ℕ
-sizeOf l =
+unfoldable pub lineSize : List ℕ → ℕ
+lineSize l =
     let n = length l in
     cond (eqb (getD l (n - 1) 0) (code "\n")) (cond (eqb (getD l (n - 2) 0) (code "\r")) (n - 2) (n - 1)) n
 
@@ -32,8 +32,8 @@ fieldsOf [] = [] ∷ []
 fieldsOf (c ∷ l) = cond (eqb c (code ",")) ([] ∷ fieldsOf l) (before c (fieldsOf l))
 
 -- what the fields come to, each as it stands: a blank in a field belongs to it
-abbrev pub numbersOf : List ℕ → List Number
-numbersOf l = map number (fieldsOf (trim l))
+abbrev pub fieldNumbers : List ℕ → List Number
+fieldNumbers l = map number (fieldsOf (trim l))
 
 -- Rust would parse it
 abbrev pub parsed : Number → Bool
@@ -48,10 +48,10 @@ tooLong (Value v) = false
 tooLong Refused = true
 
 -- NaN, which 13 refuses, where there is none
-abbrev pub valueOf : Number → Float
-valueOf Nothing = nan
-valueOf (Value v) = v
-valueOf Refused = nan
+abbrev pub fieldValue : Number → Float
+fieldValue Nothing = nan
+fieldValue (Value v) = v
+fieldValue Refused = nan
 
 module _ (ns : List Number) where
   abbrev three : Bool
@@ -72,21 +72,21 @@ module _ (ns : List Number) where
 
   -- not three, or not inside the limits
   abbrev pub noPlace : Bool
-  noPlace = not three || offLimits (valueOf lat) (valueOf lon) (valueOf alt)
+  noPlace = not three || offLimits (fieldValue lat) (fieldValue lon) (fieldValue alt)
 
   abbrev pub checks : List Refusal
   checks = (refusal.number-size if oneTooLong) ∷ (refusal.position-range if noPlace) ∷ []
 
   -- the place that they give
   abbrev pub placeOf : Position
-  placeOf = wgs84ToEcefOf (valueOf lat) (valueOf lon) (valueOf alt)
+  placeOf = wgs84ToEcefOf (fieldValue lat) (fieldValue lon) (fieldValue alt)
 
   unfoldable pub fromNumbers : Position
-  fromNumbers = unless zeros (first checks) placeOf
+  fromNumbers = unless refusedBy (first checks) placeOf
 
 -- the bytes' own checks, then those
 unfoldable pub lineRefusal : List ℕ → ℕ
-lineRefusal l = first ((refusal.non-ascii if not (ascii l)) ∷ (refusal.long-line if ltb 256 (sizeOf l)) ∷ checks (numbersOf l))
+lineRefusal l = first ((refusal.non-ascii if not (ascii l)) ∷ (refusal.long-line if ltb 256 (lineSize l)) ∷ checks (fieldNumbers l))
 
 unfoldable pub readPositionOf : List ℕ → Position
-readPositionOf l = unless zeros (lineRefusal l) (placeOf (numbersOf l))
+readPositionOf l = unless refusedBy (lineRefusal l) (placeOf (fieldNumbers l))

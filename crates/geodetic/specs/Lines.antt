@@ -10,7 +10,7 @@ use Rattle.decimal.specs.Grammar.{Written}
 use Rattle.decimal.specs.declared.read.Number.the-variants.{Value}
 use Rattle.passes.specs.Text.{blank}
 use Rattle.geodetic.specs.Ellipsoid.{offLimits, earthFixed, located, wgs84ToEcefOf}
-use Rattle.geodetic.specs.Line.{sizeOf, readPositionOf}
+use Rattle.geodetic.specs.Line.{lineSize, readPositionOf}
 use Rattle.geodetic.specs.declared.Position.{Position}
 
 -- nothing but the blanks of the pass file
@@ -32,7 +32,7 @@ pub record PositionLine (l : List ℕ) (lat lon alt : Float) : Type 0 where
   pub longitude-is : Written longitude (Value lon)
   pub height-is : Written height (Value alt)
   pub blank-after : AllBlank after
-  pub size : sizeOf l ≤ 256
+  pub size : lineSize l ≤ 256
   pub inside : offLimits lat lon alt ≡ false
 
 -- l is a position line, and p the answer to its three numbers

@@ -13,7 +13,7 @@ pub struct Position {
 }
 
 fn refused(refusal: u32) -> Position
-    ensures { λ r. ⌜ r ≡ Ellipsoid.zeros refusal ⌝ }
+    ensures { λ r. ⌜ r ≡ Ellipsoid.refusedBy refusal ⌝ }
 {
     Position {
         refusal,

@@ -12,7 +12,7 @@ use passes::pieces;
 
 // How many bytes a line has without its end.
 fn size(l: &[u8]) -> usize
-    ensures { λ r. ⌜ r ≡ Spec.sizeOf (now (l .entry)) ⌝ }
+    ensures { λ r. ⌜ r ≡ Spec.lineSize (now (l .entry)) ⌝ }
 {
     let n = l.len();
     if n == 0 {
@@ -52,7 +52,7 @@ fn is_too_long(n: Number) -> bool
 
 // NaN for what is no number: the limits refuse it.
 fn value(n: Number) -> f64
-    ensures { λ r. ⌜ r ≡ Spec.valueOf n ⌝ }
+    ensures { λ r. ⌜ r ≡ Spec.fieldValue n ⌝ }
 {
     match n {
         Number::Nothing => 0.0 / 0.0,

@@ -1,4 +1,4 @@
-use mathlib.Core.Path.{sym, ap, _∙_}
+use mathlib.Core.Path.{sym, _∙_}
 use borrow.Author.Needs.{needs}
 use Rattle.geodetic.specs.Ellipsoid.{wgs84ToEcefOf}
 use Rattle.geodetic.proofs.Numbers.{three-long, three-taken}
