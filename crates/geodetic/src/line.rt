@@ -1,8 +1,6 @@
 // A position line: latitude, longitude and height with commas between them.
 ghost use mathlib.Core.Path.{_≡_};
 ghost use mathlib.Core.List.{[], _∷_, map};
-ghost use Prim.Native.Nat.{_≤_};
-ghost use lib.ListN.{length};
 ghost use Rattle.decimal.specs.Read.{number};
 ghost use Rattle.geodetic.specs.Line as Spec;
 use super::Position;

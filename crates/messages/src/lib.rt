@@ -38,7 +38,7 @@ pub fn as_predicted() {
 pub fn position(v: Vec3) {
     if words::is_off_ground(v) {
         write(
-            b"warning: the position is less than 6300 km or more than 6500 km from the Earth's centre (latitude and longitude?)\n",
+            b"warning: the position is less than 6300 km or more than 6500 km from the Earth's centre (latitude and longitude? write LAT,LON,HEIGHT in one word)\n",
         );
     }
 }
