@@ -9,7 +9,7 @@ use lib.Ieee.{Float, isNan}
 use Rattle.refusal.specs.Order.{first, _if_, unless}
 use Rattle.frame.specs.declared.Vec3.{Vec3}
 use Rattle.arguments.specs.Refusals.{nanArgument}
-use Rattle.geodetic.specs.Ellipsoid.{earthFixed, offLimits, refusedBy, located, wgs84ToEcefOf}
+use Rattle.geodetic.specs.Ellipsoid.{earthFixed, offLimits, refusedPosition, located, wgs84ToEcefOf}
 use Rattle.geodetic.specs.Line.{readPositionOf}
 use Rattle.geodetic.specs.declared.Position.{Position}
 use Rattle.geodetic.proofs.Sized.{Sized, sized, nan-of-others}
@@ -25,8 +25,8 @@ inside : (lat lon alt : Float) → offLimits lat lon alt ≡ false → Taken (ea
 unfolding nanArgument
 inside lat lon alt h = let s = sized lat lon alt h in record { nan = λ a i. nan-of-others lat lon alt a i h; x = s .0; y = s .1; z = s .2 }
 
-answered : (v : Vec3) (t : Bool) → (t ≡ false → Taken v) → unless refusedBy (first ((13 if t) ∷ [])) (located v) .refusal ≡ 0 → Taken (unless refusedBy (first ((13 if t) ∷ [])) (located v) .ecef)
-unfolding refusedBy
+answered : (v : Vec3) (t : Bool) → (t ≡ false → Taken v) → unless refusedPosition (first ((13 if t) ∷ [])) (located v) .refusal ≡ 0 → Taken (unless refusedPosition (first ((13 if t) ∷ [])) (located v) .ecef)
+unfolding refusedPosition
 answered v true h e = absurd (let z : _≡_ {A = ℕ} 13 0 = e in omega arith)
 answered v false h e = h refl
 

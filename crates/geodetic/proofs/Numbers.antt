@@ -14,18 +14,18 @@ use Rattle.refusal.specs.Numbers as refusal
 use Rattle.refusal.specs.Order.{first, _if_, unless}
 use Rattle.decimal.specs.Read.{number}
 use Rattle.decimal.specs.declared.read.Number.{Number}
-use Rattle.geodetic.specs.Ellipsoid.{offLimits, refusedBy, wgs84ToEcefOf}
+use Rattle.geodetic.specs.Ellipsoid.{offLimits, refusedPosition, wgs84ToEcefOf}
 use Rattle.geodetic.specs.Line.{fieldsOf, oneTooLong, fieldValue, fromNumbers}
 use Rattle.geodetic.specs.declared.Position.{Position}
 use Rattle.geodetic.proofs.Fields.{fields-one, fields-more, fields-some}
 
 -- not three: 13
-pub not-three : (ns : List Number) → (length ns ≡ 3 → ⊥) → refusedBy refusal.position-range ≡ fromNumbers ns
+pub not-three : (ns : List Number) → (length ns ≡ 3 → ⊥) → refusedPosition refusal.position-range ≡ fromNumbers ns
 unfolding fromNumbers
 not-three ns h = simp (ne-eqb (length ns) 3 h)
 
 -- three, one too long: 3
-pub three-long : (a b c : Number) → oneTooLong (a ∷ b ∷ c ∷ []) ≡ true → refusedBy refusal.number-size ≡ fromNumbers (a ∷ b ∷ c ∷ [])
+pub three-long : (a b c : Number) → oneTooLong (a ∷ b ∷ c ∷ []) ≡ true → refusedPosition refusal.number-size ≡ fromNumbers (a ∷ b ∷ c ∷ [])
 unfolding fromNumbers
 three-long a b c h = simp h
 
@@ -34,7 +34,7 @@ pub three-taken : (a b c : Number) → oneTooLong (a ∷ b ∷ c ∷ []) ≡ fal
 unfolding fromNumbers wgs84ToEcefOf
 three-taken a b c h = simp h (go _ (offLimits (fieldValue a) (fieldValue b) (fieldValue c)))
   where
-    go : (x : Position) (t : Bool) → unless refusedBy (first ((13 if t) ∷ [])) x ≡ unless refusedBy (first ((13 if t) ∷ [])) (unless refusedBy (first ((13 if t) ∷ [])) x)
+    go : (x : Position) (t : Bool) → unless refusedPosition (first ((13 if t) ∷ [])) x ≡ unless refusedPosition (first ((13 if t) ∷ [])) (unless refusedPosition (first ((13 if t) ∷ [])) x)
     go x true = refl
     go x false = refl
 
@@ -50,10 +50,10 @@ module _ (l : List ℕ) (k : ℕ) (e : k ≡ until (code ",") l) (b : k ≤ leng
       ap (map number) (fields-more l z) ∙ (λ j. number (take (sym e j) l) ∷ map number (fieldsOf (drop (y j) l)))
 
   -- one field, and two
-  pub no-second : k ≡ length l → refusedBy refusal.position-range ≡ fromNumbers (map number (fieldsOf l))
+  pub no-second : k ≡ length l → refusedPosition refusal.position-range ≡ fromNumbers (map number (fieldsOf l))
   no-second h = not-three (number l ∷ []) (λ (z : _≡_ {A = ℕ} 1 3). omega arith) ∙ sym (ap fromNumbers (only h))
 
-  pub no-third : (lat : Number) → k ≡ length l → refusedBy refusal.position-range ≡ fromNumbers (lat ∷ map number (fieldsOf l))
+  pub no-third : (lat : Number) → k ≡ length l → refusedPosition refusal.position-range ≡ fromNumbers (lat ∷ map number (fieldsOf l))
   no-third lat h = not-three (lat ∷ number l ∷ []) (λ (z : _≡_ {A = ℕ} 2 3). omega arith) ∙ sym (ap (λ (ns : List Number). fromNumbers (lat ∷ ns)) (only h))
 
   -- three, and more
@@ -62,7 +62,7 @@ module _ (l : List ℕ) (k : ℕ) (e : k ≡ until (code ",") l) (b : k ≤ leng
       ap (λ (n : Number). fromNumbers (lat ∷ lon ∷ n ∷ [])) (q ∙ ap (λ (j : ℕ). number (take j l)) h ∙ ap number (take-length l))
       ∙ sym (ap (λ (ns : List Number). fromNumbers (lat ∷ lon ∷ ns)) (only h))
 
-  pub fourth : (lat lon : Number) → (k ≡ length l → ⊥) → refusedBy refusal.position-range ≡ fromNumbers (lat ∷ lon ∷ map number (fieldsOf l))
+  pub fourth : (lat lon : Number) → (k ≡ length l → ⊥) → refusedPosition refusal.position-range ≡ fromNumbers (lat ∷ lon ∷ map number (fieldsOf l))
   fourth lat lon h =
       let m = map number (fieldsOf (drop (k + 1) l)) in
       let n = length-map (fieldsOf (drop (k + 1) l)) number in

@@ -18,7 +18,7 @@ use Rattle.decimal.proofs.Grammar.{Said, nothing, this, all-grammar, only-gramm
 use Rattle.passes.specs.Text.{blank, blanks, keepTrimmed, trimEnd, trim, ascii}
 use Rattle.refusal.specs.Numbers as refusal
 use Rattle.refusal.specs.Order.{Refusal, first, _if_, unless}
-use Rattle.geodetic.specs.Ellipsoid.{outside, offLimits, refusedBy, located, earthFixed, wgs84ToEcefOf}
+use Rattle.geodetic.specs.Ellipsoid.{outside, offLimits, refusedPosition, located, earthFixed, wgs84ToEcefOf}
 use Rattle.geodetic.specs.Line.{lineSize, before, fieldsOf, fieldNumbers, fieldValue, checks, placeOf, fromNumbers, lineRefusal, readPositionOf}
 use Rattle.geodetic.specs.Lines.{AllBlank, no-blank, blank-first, PositionLine, Says, ReaderTotal}
 use Rattle.geodetic.specs.declared.Position.{Position}
@@ -280,8 +280,8 @@ reader-total-accepts {lat = lat} {lon = lon} {alt = alt} line = reader-total-cal
 -- ---- from the reader to a position line
 
 -- an answer whose refusal is 0 is not the refused one
-unless-zero : (k : ℕ) (x : Position) → unless refusedBy k x .refusal ≡ 0 → k ≡ 0
-unfolding refusedBy
+unless-zero : (k : ℕ) (x : Position) → unless refusedPosition k x .refusal ≡ 0 → k ≡ 0
+unfolding refusedPosition
 unless-zero zero x e = refl
 unless-zero (suc n) x e = e
 
@@ -392,7 +392,7 @@ reader-total-only l e =
             size = u .size;
             inside = inside;
           };
-      is = ap (λ (k : ℕ). unless refusedBy k (placeOf ns)) zero-refusal ∙ ap (λ (fs : List (List ℕ)). placeOf (map number fs)) (f .is);
+      is = ap (λ (k : ℕ). unless refusedPosition k (placeOf ns)) zero-refusal ∙ ap (λ (fs : List (List ℕ)). placeOf (map number fs)) (f .is);
     }
 
 -- A line is accepted exactly where it is a position line.

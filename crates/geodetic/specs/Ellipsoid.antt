@@ -54,11 +54,11 @@ offLimits lat lon alt =
     || (outside (neg (decimal 360 0)) (decimal 360 0) lon || outside (neg (decimal 500 0)) (decimal 10000 0) alt)
 
 -- the number of a refusal, and zeros
-unfoldable pub refusedBy : ℕ → Position
-refusedBy k = record { refusal = k; ecef = place (bits 0) (bits 0) (bits 0) }
+unfoldable pub refusedPosition : ℕ → Position
+refusedPosition k = record { refusal = k; ecef = place (bits 0) (bits 0) (bits 0) }
 
 abbrev pub located : Vec3 → Position
 located v = record { refusal = 0; ecef = v }
 
 unfoldable pub wgs84ToEcefOf : Float → Float → Float → Position
-wgs84ToEcefOf lat lon alt = unless refusedBy (first ((refusal.position-range if offLimits lat lon alt) ∷ [])) (located (earthFixed lat lon alt))
+wgs84ToEcefOf lat lon alt = unless refusedPosition (first ((refusal.position-range if offLimits lat lon alt) ∷ [])) (located (earthFixed lat lon alt))

@@ -12,7 +12,7 @@ use Rattle.decimal.specs.declared.read.Number.the-variants.{Nothing, Value, Ref
 use Rattle.passes.specs.Text.{trim, ascii}
 use Rattle.refusal.specs.Numbers as refusal
 use Rattle.refusal.specs.Order.{Refusal, first, _if_, unless}
-use Rattle.geodetic.specs.Ellipsoid.{offLimits, refusedBy, wgs84ToEcefOf}
+use Rattle.geodetic.specs.Ellipsoid.{offLimits, refusedPosition, wgs84ToEcefOf}
 use Rattle.geodetic.specs.declared.Position.{Position}
 
 -- how many bytes a line has without its end: an LF, or a CR and an LF, behind everything else
@@ -82,11 +82,11 @@ module _ (ns : List Number) where
   placeOf = wgs84ToEcefOf (fieldValue lat) (fieldValue lon) (fieldValue alt)
 
   unfoldable pub fromNumbers : Position
-  fromNumbers = unless refusedBy (first checks) placeOf
+  fromNumbers = unless refusedPosition (first checks) placeOf
 
 -- the bytes' own checks, then those
 unfoldable pub lineRefusal : List ℕ → ℕ
 lineRefusal l = first ((refusal.non-ascii if not (ascii l)) ∷ (refusal.long-line if ltb 256 (lineSize l)) ∷ checks (fieldNumbers l))
 
 unfoldable pub readPositionOf : List ℕ → Position
-readPositionOf l = unless refusedBy (lineRefusal l) (placeOf (fieldNumbers l))
+readPositionOf l = unless refusedPosition (lineRefusal l) (placeOf (fieldNumbers l))

@@ -13,7 +13,7 @@ pub struct Position {
 }
 
 fn refused(refusal: u32) -> Position
-    ensures { λ r. ⌜ r ≡ Ellipsoid.refusedBy refusal ⌝ }
+    ensures { λ r. ⌜ r ≡ Ellipsoid.refusedPosition refusal ⌝ }
 {
     Position {
         refusal,
