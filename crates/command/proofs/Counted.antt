@@ -5,7 +5,7 @@ use Prim.Native.Nat.{ℕ, _+_, _-_, _≤_, zero-le}
 use native.Mathlib.Omega.{arith}
 use lib.Dec.{ltb, lit≤}
 use borrow.Author.Tests.{ltb-false}
-use Rattle.command.specs.Words.{mastWords, filesOf, firstFile, receivedBefore}
+use Rattle.command.specs.Words.{mastWords, filesOf, layoutOf}
 use Rattle.command.specs.declared.words.Files.{Files}
 use Rattle.command.specs.declared.words.Files.the-variants.{TooFew, TooMany, Named}
 
@@ -23,16 +23,8 @@ pub at-most-sixteen : (line : Bool) (words : ℕ) {n : ℕ} → filesOf line wor
 unfolding filesOf
 at-most-sixteen line words e = subst (λ (f : Files). count f ≤ 16) e (few (ltb words (mastWords line + 2)) (ltb (mastWords line + 17) words) (mastWords line) words refl)
 
--- by its place the first file's word tells whether --as-received was said, with either way to say the mast
-pub received-told : (received line : Bool) → receivedBefore (firstFile received line) ≡ received
-unfolding receivedBefore firstFile
-received-told true true = refl
-received-told true false = refl
-received-told false true = refl
-received-told false false = refl
-
-pub at-most-sixth : (received line : Bool) → firstFile received line ≤ 6
-unfolding firstFile
+pub at-most-sixth : (received line : Bool) → layoutOf received line .first ≤ 6
+unfolding layoutOf
 at-most-sixth true true = lit≤ tt
 at-most-sixth true false = lit≤ tt
 at-most-sixth false true = lit≤ tt

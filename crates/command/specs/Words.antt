@@ -1,5 +1,5 @@
 -- What the command's words say.
-use Prim.Native.Nat.{ℕ, _+_, _-_, _%_}
+use Prim.Native.Nat.{ℕ, _+_, _-_}
 use mathlib.Core.Bool.{Bool, true, false, cond, _||_}
 use mathlib.Core.List.{List}
 use lib.Dec.{ltb, eqb}
@@ -20,6 +20,7 @@ use Rattle.decimal.specs.declared.read.Number.{Number}
 use Rattle.decimal.specs.declared.read.Number.the-variants.{Nothing, Value, Refused}
 use Rattle.command.specs.declared.words.Files.{Files}
 use Rattle.command.specs.declared.words.Files.the-variants.{TooFew, TooMany, Named}
+use Rattle.command.specs.declared.words.Layout.{Layout}
 use Rattle.command.specs.declared.words.Mast.{Mast}
 use Rattle.command.specs.declared.words.Mast.the-variants.{At, NoNumber, LongNumber, NoPlace}
 
@@ -61,13 +62,9 @@ mastWords false = 4
 unfoldable pub filesOf : Bool → ℕ → Files
 filesOf line n = let k = mastWords line in cond (ltb n (k + 2)) TooFew (cond (ltb (k + 17) n) TooMany (Named (n - (k + 1))))
 
--- which word the first file is, behind --as-received or without it
-unfoldable pub firstFile : Bool → Bool → ℕ
-firstFile received line = cond received 2 1 + mastWords line
-
--- --as-received moves it from an odd place to an even one (proofs/Counted.antt)
-unfoldable pub receivedBefore : ℕ → Bool
-receivedBefore first = eqb (first % 2) 0
+-- behind --as-received or without it, which word the first file is
+unfoldable pub layoutOf : Bool → Bool → Layout
+layoutOf received line = record { received = received; first = cond received 2 1 + mastWords line }
 
 -- what follows from word k, if it is a number
 abbrev pub ifNumber : ℕ → Number → (Float → Mast) → Mast

@@ -3,7 +3,7 @@
 ghost use mathlib.Core.Path.{_≡_};
 ghost use Prim.Native.Nat.{_≤_};
 ghost use Rattle.decimal.specs.Read.{spells};
-ghost use Rattle.command.specs.Words.{asReceived, offGround, isLine, mastWords, filesOf, firstFile, receivedBefore, mastOf, xOf, yOf, zOf, inclinationOf, lineMast};
+ghost use Rattle.command.specs.Words.{asReceived, offGround, isLine, mastWords, filesOf, layoutOf, mastOf, xOf, yOf, zOf, inclinationOf, lineMast};
 use decimal::read;
 use decimal::read::Number;
 use frame::Vec3;
@@ -33,6 +33,12 @@ pub enum Files {
     TooFew,
     TooMany,
     Named(usize),
+}
+
+// Whether --as-received was said, and which word the first file is.
+pub struct Layout {
+    pub received: bool,
+    pub first: usize,
 }
 
 // The mast's position in metres and an inclination in radians; or which of X, Y, Z and the inclination, counted from 1, is no number, or
@@ -72,22 +78,21 @@ pub fn files_of(line: bool, words: usize) -> Files
     Files::Named(words - (k + 1))
 }
 
-// Which word the first file is.
-pub fn first_file(received: bool, line: bool) -> usize
-    ensures { λ r. ⌜ r ≡ firstFile received line ⌝ }
+// Where the files stand, behind --as-received or not, and behind a position line or X Y Z.
+pub fn layout_of(received: bool, line: bool) -> Layout
+    ensures { λ r. ⌜ r ≡ layoutOf received line ⌝ }
 {
     let k = mast_words(line);
     if received {
-        return 2 + k;
+        return Layout {
+            received,
+            first: 2 + k,
+        };
     }
-    1 + k
-}
-
-// Whether --as-received stands before the first file's word.
-pub fn is_received(first: usize) -> bool
-    ensures { λ r. ⌜ r ≡ receivedBefore first ⌝ }
-{
-    first % 2 == 0
+    Layout {
+        received,
+        first: 1 + k,
+    }
 }
 
 fn inclination_of(v: Vec3, i: Number) -> Mast

@@ -5,7 +5,7 @@ ghost use Rattle.pass_set.specs.PassSet.{Sizes};
 ghost use Rattle.pass_checks.specs.Checks.{Whole};
 use command::report;
 use command::report::Biases;
-use command::words;
+use command::words::Layout;
 use determination::Determination;
 use frame::Vec3;
 use libc::STDOUT_FILENO;
@@ -57,7 +57,7 @@ fn word_of(i: usize, first: usize) -> usize {
 
 // The biases of each file, by time.
 fn biases(
-    first: usize,
+    layout: Layout,
     order: &[usize],
     counts: &[u32],
     dts: &[f64],
@@ -65,12 +65,11 @@ fn biases(
     df1s: &[f64],
     df2s: &[f64],
 ) {
+    let received = layout.received;
+    let first = layout.first;
     for p in 0..order.len() {
         let b = report::biases_of(counts, p, dts, dfs, df1s, df2s);
-        messages::pass(
-            word_of(order[p], first),
-            turned(words::is_received(first), b),
-        );
+        messages::pass(word_of(order[p], first), turned(received, b));
     }
 }
 
@@ -94,7 +93,7 @@ fn fit_refused(k: u32, first: usize, nan: usize) {
 
 // The report of an accepted fit, or why there is none.
 fn report(
-    first: usize,
+    layout: Layout,
     nan: usize,
     order: &[usize],
     d: Determination,
@@ -110,7 +109,7 @@ fn report(
 ) {
     let f = d.fit;
     if f.refusal != 0 {
-        fit_refused(f.refusal, first, nan);
+        fit_refused(f.refusal, layout.first, nan);
         return;
     }
     let orbit = f.orbit;
@@ -133,13 +132,13 @@ fn report(
     );
     messages::fit(f.trials, f.best, rms, times.len(), counts.len());
     tell_noise(rms, counts, times, freqs);
-    biases(first, order, counts, dts, dfs, df1s, df2s);
+    biases(layout, order, counts, dts, dfs, df1s, df2s);
 }
 
 // Fits the set, writes what `outcome` says to standard output, and tells of it. Callers meet the `requires`, here and of `fit`, by
 // proof.
 fn solve(
-    first: usize,
+    layout: Layout,
     nan: usize,
     counts: &[u32],
     times: &[i64],
@@ -167,7 +166,7 @@ fn solve(
     let mut scratch = [0.0f64; 305936];
     let mut text = [0u8; 256];
     let d = outcome::outcome(
-        words::is_received(first),
+        layout.received,
         counts,
         times,
         freqs,
@@ -192,7 +191,7 @@ fn solve(
     let n = lines.length;
     io::write_all(STDOUT_FILENO, &text[..n]);
     report(
-        first,
+        layout,
         nan,
         order,
         d,
@@ -209,7 +208,7 @@ fn solve(
 }
 
 fn fit(
-    first: usize,
+    layout: Layout,
     nan: usize,
     counts: &[u32],
     times: &[i64],
@@ -229,7 +228,7 @@ fn fit(
     let mut freqs_out = [0.0f64; 4096];
     let mut centers_out = [0.0f64; 16];
     solve(
-        first,
+        layout,
         nan,
         counts,
         times,
@@ -260,7 +259,7 @@ fn tell_twins(first: usize, counts: &[u32], times: &[i64], freqs: &[f64])
 
 // Tells what is odd in the set, and fits it.
 pub fn check_and_fit(
-    first: usize,
+    layout: Layout,
     counts: &[u32],
     times: &[i64],
     freqs: &mut [f64],
@@ -271,10 +270,10 @@ pub fn check_and_fit(
 )
     requires { ⌜ Sizes (now counts) (length (now times)) (length (now freqs)) (length (now centers)) ⌝ }
 {
-    tell_twins(first, counts, times, freqs);
+    tell_twins(layout.first, counts, times, freqs);
     let nan = pass_checks::nan_pass(counts, freqs);
     fit(
-        first,
+        layout,
         nan,
         counts,
         times,

@@ -6,13 +6,15 @@ ghost use Prim.Native.Nat.{_≤_};
 ghost use Rattle.io.specs.Counts.{Counts};
 use command::words;
 use command::words::Files;
+use command::words::Layout;
 use command::words::Mast;
 use frame::Vec3;
 
 // Gathers the files and fits.
-fn fit_files(first: usize, n: usize, rec_ecef: Vec3, initial_i: f64)
-    requires { ⌜ (n ≤ 16) × (first ≤ 6) ⌝ }
+fn fit_files(layout: Layout, n: usize, rec_ecef: Vec3, initial_i: f64)
+    requires { ⌜ (n ≤ 16) × (layout .first ≤ 6) ⌝ }
 {
+    let first = layout.first;
     let mut counts = [0u32; 16];
     let mut times = [0i64; 4096];
     let mut freqs = [0.0f64; 4096];
@@ -38,7 +40,7 @@ fn fit_files(first: usize, n: usize, rec_ecef: Vec3, initial_i: f64)
         messages::empty_name();
     }
     fitting::check_and_fit(
-        first,
+        layout,
         &counts[..p],
         &times[..s],
         &mut freqs[..s],
@@ -97,15 +99,15 @@ fn mast(k: usize) -> Mast
     words::mast_of(&x[..nx], &y[..ny], &z[..nz], &i[..ni])
 }
 
-// The mast's words, from word k on, then the n files from word `first` on.
-fn numbers(k: usize, first: usize, n: usize)
-    requires { ⌜ (n ≤ 16) × (k ≤ 2) × (first ≤ 6) ⌝ }
+// The mast's words, from word k on, then the n files.
+fn numbers(k: usize, layout: Layout, n: usize)
+    requires { ⌜ (n ≤ 16) × (k ≤ 2) × (layout .first ≤ 6) ⌝ }
 {
     let m = mast(k);
     match m {
         Mast::At(rec_ecef, initial_i) => {
             messages::position(rec_ecef);
-            fit_files(first, n, rec_ecef, initial_i);
+            fit_files(layout, n, rec_ecef, initial_i);
         }
         Mast::NoNumber(k) => messages::no_number(k),
         Mast::LongNumber(k) => messages::long_number(k),
@@ -122,7 +124,7 @@ fn words_from(k: usize, received: bool, count: usize)
     match named {
         Files::TooFew => messages::usage(),
         Files::TooMany => messages::too_many(),
-        Files::Named(n) => numbers(k, words::first_file(received, line), n),
+        Files::Named(n) => numbers(k, words::layout_of(received, line), n),
     }
 }
 

@@ -6,10 +6,10 @@ use Rattle.fit_command.proofs.fitting.biases.Statement.{statement}
 use Rattle.fit_command.proofs.fitting.biases.Tie as tie
 
 abbrev Inv-loop : tie.InvT-loop
-Inv-loop first order counts dts dfs df1s df2s p₀ p-end p = p ≤ length order
+Inv-loop order counts dts dfs df1s df2s received first p₀ p-end p = p ≤ length order
 
 abbrev μ-loop : tie.MeasureT-loop
-μ-loop first order counts dts dfs df1s df2s p₀ p-end p = length order - p
+μ-loop order counts dts dfs df1s df2s received first p₀ p-end p = length order - p
 
 pub biases-spec : {M : Type 1} → statement M
 biases-spec =
@@ -21,7 +21,6 @@ biases-spec =
     (λ c κs. search needs)
     (λ c. search needs)
     (λ c. search needs)
-    (λ c κs. search needs)
     (λ c κs. search needs)
     (λ c κs. search needs)
     (λ c κs. search needs)

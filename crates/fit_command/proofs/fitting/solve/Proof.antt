@@ -15,7 +15,6 @@ pub solve-spec : {M : Type 1} → statement M
 solve-spec =
     tie.close
     (tie.spec
-    (λ c κs. search needs)
     (λ c. search needs)
     (λ c. search needs)
     (λ c. search needs)
