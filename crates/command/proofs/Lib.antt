@@ -5,3 +5,4 @@ pub mod Counted
 pub mod Reports
 pub mod AnyOrder
 pub mod Taken
+pub mod AsBefore

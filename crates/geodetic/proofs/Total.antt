@@ -9,13 +9,13 @@ use lib.ListN.{length, getD, take, drop, take-append-drop}
 use lib.Ieee.{Float, nan, isNan}
 use borrow.Author.Tests.{ne-eqb, eqb-true, le-leb, lt-leb, leb-true, le-ltb, ltb-true, ltb-false, not-false}
 use Rattle.laws.proofs.Tests.{and-true, or-false}
-use Rattle.text.specs.Text.{bytes}
+use Rattle.text.specs.Text.{bytes, code}
 use Rattle.decimal.specs.Read.{lower, spells, number}
 use Rattle.decimal.specs.Grammar.{Digits, no-digit, digit, Sign, no-sign, plus, minus, Mantissa, whole, point-last, point-first, Exp, no-exp, exp, Body, is-inf, is-infinity, is-nan, is-number, Written, written}
 use Rattle.decimal.specs.declared.read.Number.{Number}
 use Rattle.decimal.specs.declared.read.Number.the-variants.{Nothing, Value, Refused}
 use Rattle.decimal.proofs.Grammar.{Said, nothing, this, all-grammar, only-grammar, letter}
-use Rattle.passes.specs.Text.{blank, blanks, keepTrimmed, trimEnd, trim, ascii}
+use Rattle.passes.specs.Text.{blank, blanks, keepTrimmed, trimEnd, trim, until, ascii}
 use Rattle.refusal.specs.Numbers as refusal
 use Rattle.refusal.specs.Order.{Refusal, first, _if_, unless}
 use Rattle.geodetic.specs.Ellipsoid.{outside, offLimits, refusedPosition, located, earthFixed, wgs84ToEcefOf}
@@ -139,6 +139,19 @@ body-plain (is-number m x) = each-append (mantissa-plain m) (exp-plain x)
 
 written-plain : {l : List ℕ} {v : Number} → Written l v → Each Plain l
 written-plain (written s b) = each-append (sign-plain s) (body-plain b)
+
+-- so no number has a comma, one that refusal 3 refuses included
+plain-until : {l : List ℕ} → Each Plain l → until (code ",") l ≡ length l
+unfolding until
+plain-until none = refl
+plain-until (more {c = c} p x) = simp (ne-eqb c 44 (p .no-comma), plain-until x)
+
+said-plain : {l : List ℕ} {n : Number} → Said (Written l) n → (n ≡ Nothing → ⊥) → Each Plain l
+said-plain nothing h = absurd (h refl)
+said-plain (this w) h = written-plain w
+
+pub number-no-comma : (l : List ℕ) → (number l ≡ Nothing → ⊥) → until (code ",") l ≡ length l
+number-no-comma l h = plain-until (said-plain (only-grammar l) h)
 
 -- ---- fields
 
