@@ -1,4 +1,3 @@
-// What the command does with words, files and numbers, apart from reading and writing them. The public functions take any input.
+// What the command does with files and numbers, apart from reading and writing them. The public functions take any input.
 pub mod gather;
 pub mod report;
-pub mod words;

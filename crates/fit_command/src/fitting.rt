@@ -5,7 +5,7 @@ ghost use Rattle.pass_set.specs.PassSet.{Sizes};
 ghost use Rattle.pass_checks.specs.Checks.{Whole};
 use command::report;
 use command::report::Biases;
-use command::words::Layout;
+use command_words::Layout;
 use determination::Determination;
 use frame::Vec3;
 use libc::STDOUT_FILENO;

@@ -4,10 +4,9 @@ mod fitting;
 
 ghost use Prim.Native.Nat.{_≤_};
 ghost use Rattle.io.specs.Counts.{Counts};
-use command::words;
-use command::words::Files;
-use command::words::Layout;
-use command::words::Mast;
+use command_words::Files;
+use command_words::Layout;
+use command_words::Mast;
 use frame::Vec3;
 
 // Gathers the files and fits.
@@ -81,7 +80,7 @@ fn first_word(i: usize, out: &mut [u8]) -> usize
 fn is_line(k: usize) -> bool {
     let mut w = [0u8; 259];
     let n = first_word(k, &mut w);
-    words::is_line(&w[..n])
+    command_words::is_line(&w[..n])
 }
 
 // The words of mast and inclination, from word k on. A position line has 256 bytes at most, and a line end.
@@ -96,7 +95,7 @@ fn mast(k: usize) -> Mast
     let ny = word(k + 1, &mut y);
     let nz = word(k + 2, &mut z);
     let ni = word(k + 3, &mut i);
-    words::mast_of(&x[..nx], &y[..ny], &z[..nz], &i[..ni])
+    command_words::mast_of(&x[..nx], &y[..ny], &z[..nz], &i[..ni])
 }
 
 // The mast's words, from word k on, then the n files.
@@ -120,11 +119,11 @@ fn words_from(k: usize, received: bool, count: usize)
     requires { ⌜ k ≤ 2 ⌝ }
 {
     let line = is_line(k);
-    let named = words::files_of(line, count);
+    let named = command_words::files_of(line, count);
     match named {
         Files::TooFew => messages::usage(),
         Files::TooMany => messages::too_many(),
-        Files::Named(n) => numbers(k, words::layout_of(received, line), n),
+        Files::Named(n) => numbers(k, command_words::layout_of(received, line), n),
     }
 }
 
@@ -132,7 +131,7 @@ fn words_from(k: usize, received: bool, count: usize)
 fn as_received() -> bool {
     let mut w = [0u8; 64];
     let n = word(1, &mut w);
-    words::is_as_received(&w[..n])
+    command_words::is_as_received(&w[..n])
 }
 
 pub fn run() {

@@ -1,7 +1,6 @@
 // What the command says on standard error: `report_text` makes the report's lines, and here they are written.
 ghost use Rattle.io.specs.Counts.{Counts};
 use command::report::Biases;
-use command::words;
 use frame::Vec3;
 use pass_files::say::flush;
 use pass_files::say::write;
@@ -36,7 +35,7 @@ pub fn as_predicted() {
 
 // A mast that is not near the ground.
 pub fn position(v: Vec3) {
-    if words::is_off_ground(v) {
+    if command_words::is_off_ground(v) {
         write(
             b"warning: the position is less than 6300 km or more than 6500 km from the Earth's centre (latitude and longitude? write LAT,LON,HEIGHT in one word)\n",
         );

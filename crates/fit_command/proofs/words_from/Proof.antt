@@ -1,7 +1,7 @@
 -- `words_from` is safe and ends. Assumes nothing.
 use mathlib.Core.Path.{sym, ap, _∙_, subst}
 use Prim.Native.Nat.{_≤_}
-use Rattle.command.proofs.Counted.{at-most-sixteen, at-most-sixth}
+use Rattle.command_words.proofs.Counted.{at-most-sixteen, at-most-sixth}
 use borrow.Author.Needs.{needs}
 use Rattle.fit_command.proofs.words_from.Statement.{statement}
 use Rattle.fit_command.proofs.words_from.Tie as tie

@@ -1,8 +1,8 @@
 -- `is_line` meets its contract. Assumes nothing.
 use borrow.Author.Needs.{needs}
-use Rattle.command.specs.Words.{isLine}
-use Rattle.command.proofs.words.is_line.Statement.{statement}
-use Rattle.command.proofs.words.is_line.Tie as tie
+use Rattle.command_words.specs.Words.{isLine}
+use Rattle.command_words.proofs.is_line.Statement.{statement}
+use Rattle.command_words.proofs.is_line.Tie as tie
 
 returns : tie.Need-returns
 unfolding isLine

@@ -18,11 +18,11 @@ use Rattle.geodetic.specs.declared.Position.{Position}
 use Rattle.decimal.specs.Read.{number}
 use Rattle.decimal.specs.declared.read.Number.{Number}
 use Rattle.decimal.specs.declared.read.Number.the-variants.{Nothing, Value, Refused}
-use Rattle.command.specs.declared.words.Files.{Files}
-use Rattle.command.specs.declared.words.Files.the-variants.{TooFew, TooMany, Named}
-use Rattle.command.specs.declared.words.Layout.{Layout}
-use Rattle.command.specs.declared.words.Mast.{Mast}
-use Rattle.command.specs.declared.words.Mast.the-variants.{At, NoNumber, LongNumber, NoPlace}
+use Rattle.command_words.specs.declared.Files.{Files}
+use Rattle.command_words.specs.declared.Files.the-variants.{TooFew, TooMany, Named}
+use Rattle.command_words.specs.declared.Layout.{Layout}
+use Rattle.command_words.specs.declared.Mast.{Mast}
+use Rattle.command_words.specs.declared.Mast.the-variants.{At, NoNumber, LongNumber, NoPlace}
 
 abbrev pub asReceived : List ℕ
 asReceived = bytes "--as-received"

@@ -12,11 +12,11 @@ use Rattle.float.specs.Ops.{radiansOf}
 use Rattle.decimal.specs.Read.{number}
 use Rattle.decimal.specs.declared.read.Number.the-variants.{Nothing}
 use Rattle.geodetic.proofs.Total.{number-no-comma}
-use Rattle.command.specs.Words.{isLine, filesOf, ifNumber, mastOf}
-use Rattle.command.specs.declared.words.Files.{Files}
-use Rattle.command.specs.declared.words.Files.the-variants.{TooFew, TooMany, Named}
-use Rattle.command.specs.declared.words.Mast.{Mast}
-use Rattle.command.specs.declared.words.Mast.the-variants.{At}
+use Rattle.command_words.specs.Words.{isLine, filesOf, ifNumber, mastOf}
+use Rattle.command_words.specs.declared.Files.{Files}
+use Rattle.command_words.specs.declared.Files.the-variants.{TooFew, TooMany, Named}
+use Rattle.command_words.specs.declared.Mast.{Mast}
+use Rattle.command_words.specs.declared.Mast.the-variants.{At}
 
 -- the program's name and four numbers, then 1 to 16 files
 abbrev pub filesBefore : ℕ → Files

@@ -3,7 +3,7 @@
 ghost use mathlib.Core.Path.{_≡_};
 ghost use Prim.Native.Nat.{_≤_};
 ghost use Rattle.decimal.specs.Read.{spells};
-ghost use Rattle.command.specs.Words.{asReceived, offGround, isLine, mastWords, filesOf, layoutOf, mastOf, xOf, yOf, zOf, inclinationOf, lineMast};
+ghost use Rattle.command_words.specs.Words.{asReceived, offGround, isLine, mastWords, filesOf, layoutOf, mastOf, xOf, yOf, zOf, inclinationOf, lineMast};
 use decimal::read;
 use decimal::read::Number;
 use frame::Vec3;

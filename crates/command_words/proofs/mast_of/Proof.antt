@@ -1,9 +1,9 @@
 -- `mast_of` meets its contract. Assumes nothing.
 use mathlib.Core.Path.{sym, _∙_}
 use borrow.Author.Needs.{needs}
-use Rattle.command.specs.Words.{mastOf}
-use Rattle.command.proofs.words.mast_of.Statement.{statement}
-use Rattle.command.proofs.words.mast_of.Tie as tie
+use Rattle.command_words.specs.Words.{mastOf}
+use Rattle.command_words.proofs.mast_of.Statement.{statement}
+use Rattle.command_words.proofs.mast_of.Tie as tie
 
 returns : tie.Need-returns
 unfolding mastOf

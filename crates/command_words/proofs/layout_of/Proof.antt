@@ -1,8 +1,8 @@
 -- `layout_of` meets its contract. Assumes nothing.
 use borrow.Author.Needs.{needs}
-use Rattle.command.specs.Words.{layoutOf}
-use Rattle.command.proofs.words.layout_of.Statement.{statement}
-use Rattle.command.proofs.words.layout_of.Tie as tie
+use Rattle.command_words.specs.Words.{layoutOf}
+use Rattle.command_words.proofs.layout_of.Statement.{statement}
+use Rattle.command_words.proofs.layout_of.Tie as tie
 
 returns : tie.Need-returns
 unfolding layoutOf

@@ -1,9 +1,9 @@
 -- `files_of` meets its contract. Assumes nothing.
 use borrow.Author.Needs.{needs}
 use borrow.Author.Tests.{lt-ltb, le-ltb}
-use Rattle.command.specs.Words.{filesOf}
-use Rattle.command.proofs.words.files_of.Statement.{statement}
-use Rattle.command.proofs.words.files_of.Tie as tie
+use Rattle.command_words.specs.Words.{filesOf}
+use Rattle.command_words.proofs.files_of.Statement.{statement}
+use Rattle.command_words.proofs.files_of.Tie as tie
 
 returns : tie.Need-returns
 unfolding filesOf

@@ -5,9 +5,9 @@ use Prim.Native.Nat.{ℕ, _+_, _-_, _≤_, zero-le}
 use native.Mathlib.Omega.{arith}
 use lib.Dec.{ltb, lit≤}
 use borrow.Author.Tests.{ltb-false}
-use Rattle.command.specs.Words.{mastWords, filesOf, layoutOf}
-use Rattle.command.specs.declared.words.Files.{Files}
-use Rattle.command.specs.declared.words.Files.the-variants.{TooFew, TooMany, Named}
+use Rattle.command_words.specs.Words.{mastWords, filesOf, layoutOf}
+use Rattle.command_words.specs.declared.Files.{Files}
+use Rattle.command_words.specs.declared.Files.the-variants.{TooFew, TooMany, Named}
 
 abbrev count : Files → ℕ
 count TooFew = 0

@@ -1,10 +1,10 @@
 -- `inclination_of` meets its contract. Assumes nothing.
 use mathlib.Core.Path.{sym, ap, _∙_}
 use borrow.Author.Needs.{needs}
-use Rattle.command.specs.declared.words.Mast.the-variants.{At}
-use Rattle.command.specs.Words.{inclinationOf}
-use Rattle.command.proofs.words.inclination_of.Statement.{statement}
-use Rattle.command.proofs.words.inclination_of.Tie as tie
+use Rattle.command_words.specs.declared.Mast.the-variants.{At}
+use Rattle.command_words.specs.Words.{inclinationOf}
+use Rattle.command_words.proofs.inclination_of.Statement.{statement}
+use Rattle.command_words.proofs.inclination_of.Tie as tie
 
 returns-2 : tie.Need-returns-2
 returns-2 c =

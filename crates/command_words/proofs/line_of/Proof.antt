@@ -1,8 +1,8 @@
 -- `line_of` meets its contract. Assumes nothing.
 use borrow.Author.Tests.{eq-eqb, ne-eqb}
 use borrow.Author.Needs.{needs}
-use Rattle.command.proofs.words.line_of.Statement.{statement}
-use Rattle.command.proofs.words.line_of.Tie as tie
+use Rattle.command_words.proofs.line_of.Statement.{statement}
+use Rattle.command_words.proofs.line_of.Tie as tie
 
 returns : tie.Need-returns
 returns c = simp (c .inclination-of .ensures, eq-eqb _ _ (c .before .if1 .taken))

@@ -4,9 +4,9 @@ use mathlib.Core.Bool.{true, false, _||_}
 use lib.Ieee.{Float, lt}
 use borrow.Author.Needs.{needs}
 use Rattle.float.specs.Ops.{bits}
-use Rattle.command.specs.Words.{nearest, nearest-bits, farthest, farthest-bits, offGround}
-use Rattle.command.proofs.words.is_off_ground.Statement.{statement}
-use Rattle.command.proofs.words.is_off_ground.Tie as tie
+use Rattle.command_words.specs.Words.{nearest, nearest-bits, farthest, farthest-bits, offGround}
+use Rattle.command_words.proofs.is_off_ground.Statement.{statement}
+use Rattle.command_words.proofs.is_off_ground.Tie as tie
 
 near : {d e : Float} → d ≡ e → lt d (bits 0x4158085800000000) ≡ true → true ≡ (lt e nearest || lt farthest e)
 near {d} {e} p h = rw (← nearest-bits, ← p, h)
