@@ -9,7 +9,7 @@ use lib.ListN.{length, getD, take, drop}
 use borrow.Author.Tests.{eq-eqb, ne-eqb}
 use Rattle.text.specs.Text.{code}
 use Rattle.passes.specs.Text.{until}
-use Rattle.geodetic.specs.Line.{lineSize, before, fieldsOf}
+use Rattle.geodetic.specs.Line.{lineSize, ontoFirst, fieldsOf}
 
 -- ---- the size
 module _ (l : List ℕ) where
@@ -45,7 +45,7 @@ fields-comma : (c : ℕ) (l : List ℕ) → eqb c (code ",") ≡ true → fields
 unfolding fieldsOf
 fields-comma c l e = simp e
 
-fields-other : (c : ℕ) (l : List ℕ) → eqb c (code ",") ≡ false → fieldsOf (c ∷ l) ≡ before c (fieldsOf l)
+fields-other : (c : ℕ) (l : List ℕ) → eqb c (code ",") ≡ false → fieldsOf (c ∷ l) ≡ ontoFirst c (fieldsOf l)
 unfolding fieldsOf
 fields-other c l e = simp e
 
@@ -59,17 +59,17 @@ until-other c l e = simp e
 
 -- no comma: one field
 pub fields-one : (l : List ℕ) → until (code ",") l ≡ length l → fieldsOf l ≡ l ∷ []
-unfolding fieldsOf before
+unfolding fieldsOf ontoFirst
 fields-one [] e = refl
 fields-one (c ∷ l) e = go (eqb c (code ",")) refl (fields-one l)
   where
     go : (b : Bool) → eqb c (code ",") ≡ b → (until (code ",") l ≡ length l → fieldsOf l ≡ l ∷ []) → fieldsOf (c ∷ l) ≡ (c ∷ l) ∷ []
     go true p ih = let z = until-comma c l p in absurd (omega arith)
-    go false p ih = let z = until-other c l p in fields-other c l p ∙ ap (before c) (ih (omega arith))
+    go false p ih = let z = until-other c l p in fields-other c l p ∙ ap (ontoFirst c) (ih (omega arith))
 
 -- a comma: what stands before it, and the fields behind it
 pub fields-more : (l : List ℕ) → until (code ",") l < length l → fieldsOf l ≡ take (until (code ",") l) l ∷ fieldsOf (drop (suc (until (code ",") l)) l)
-unfolding before
+unfolding ontoFirst
 fields-more [] h = absurd (omega arith)
 fields-more (c ∷ l) h = go (eqb c (code ",")) refl (fields-more l)
   where
@@ -78,19 +78,19 @@ fields-more (c ∷ l) h = go (eqb c (code ",")) refl (fields-more l)
 
     go : (b : Bool) → eqb c (code ",") ≡ b → (until (code ",") l < length l → fieldsOf l ≡ cut (until (code ",") l) l) → fieldsOf (c ∷ l) ≡ cut (until (code ",") (c ∷ l)) (c ∷ l)
     go true p ih = fields-comma c l p ∙ sym (ap (λ (k : ℕ). cut k (c ∷ l)) (until-comma c l p))
-    go false p ih = let z = until-other c l p in fields-other c l p ∙ ap (before c) (ih (omega arith)) ∙ sym (ap (λ (k : ℕ). cut k (c ∷ l)) z)
+    go false p ih = let z = until-other c l p in fields-other c l p ∙ ap (ontoFirst c) (ih (omega arith)) ∙ sym (ap (λ (k : ℕ). cut k (c ∷ l)) z)
 
 -- there is always one
-some-before : (c : ℕ) (fs : List (List ℕ)) → 0 < length (before c fs)
-unfolding before
-some-before c [] = omega arith
-some-before c (f ∷ fs) = omega arith
+some-onto : (c : ℕ) (fs : List (List ℕ)) → 0 < length (ontoFirst c fs)
+unfolding ontoFirst
+some-onto c [] = omega arith
+some-onto c (f ∷ fs) = omega arith
 
 pub fields-some : (l : List ℕ) → 0 < length (fieldsOf l)
 unfolding fieldsOf
 fields-some [] = omega arith
 fields-some (c ∷ l) = go (eqb c (code ","))
   where
-    go : (b : Bool) → 0 < length (cond b ([] ∷ fieldsOf l) (before c (fieldsOf l)))
+    go : (b : Bool) → 0 < length (cond b ([] ∷ fieldsOf l) (ontoFirst c (fieldsOf l)))
     go true = omega arith
-    go false = some-before c (fieldsOf l)
+    go false = some-onto c (fieldsOf l)

@@ -19,9 +19,10 @@ use Rattle.passes.specs.Text.{blank, blanks, keepTrimmed, trimEnd, trim, until,
 use Rattle.refusal.specs.Numbers as refusal
 use Rattle.refusal.specs.Order.{Refusal, first, _if_, unless}
 use Rattle.geodetic.specs.Ellipsoid.{outside, offLimits, refusedPosition, located, earthFixed, wgs84ToEcefOf}
-use Rattle.geodetic.specs.Line.{lineSize, before, fieldsOf, fieldNumbers, fieldValue, checks, placeOf, fromNumbers, lineRefusal, readPositionOf}
+use Rattle.geodetic.specs.Line.{lineSize, ontoFirst, fieldsOf, fieldNumbers, fieldValue, checks, positionSaid, fromNumbers, lineRefusal, readPositionOf}
 use Rattle.geodetic.specs.Lines.{AllBlank, no-blank, blank-first, PositionLine, Says, ReaderTotal}
 use Rattle.geodetic.specs.declared.Position.{Position}
+use Rattle.geodetic.proofs.Fields.{fields-one}
 
 -- ---- the bytes of a line
 
@@ -155,13 +156,8 @@ number-no-comma l h = plain-until (said-plain (only-grammar l) h)
 
 -- ---- fields
 
-fields-last : {l : List ℕ} → Each Plain l → fieldsOf l ≡ l ∷ []
-unfolding fieldsOf before
-fields-last none = refl
-fields-last (more {c = c} p x) = simp (ne-eqb c 44 (p .no-comma), fields-last x)
-
 fields-comma : {l : List ℕ} → Each Plain l → (r : List ℕ) → fieldsOf (l ++ 44 ∷ r) ≡ l ∷ fieldsOf r
-unfolding fieldsOf before
+unfolding fieldsOf ontoFirst
 fields-comma none r = refl
 fields-comma (more {c = c} p x) r = simp (ne-eqb c 44 (p .no-comma), fields-comma x r)
 
@@ -171,11 +167,11 @@ joined [] = []
 joined (f ∷ fs) = 44 ∷ (f ++ joined fs)
 
 fields-joined : (l : List ℕ) → joined (fieldsOf l) ≡ 44 ∷ l
-unfolding fieldsOf before
+unfolding fieldsOf ontoFirst
 fields-joined [] = refl
 fields-joined (c ∷ l) = go (eqb c 44) refl (fieldsOf l) (fields-joined l)
   where
-    go : (b : Bool) → eqb c 44 ≡ b → (fs : List (List ℕ)) → joined fs ≡ 44 ∷ l → joined (cond b ([] ∷ fs) (before c fs)) ≡ 44 ∷ (c ∷ l)
+    go : (b : Bool) → eqb c 44 ≡ b → (fs : List (List ℕ)) → joined fs ≡ 44 ∷ l → joined (cond b ([] ∷ fs) (ontoFirst c fs)) ≡ 44 ∷ (c ∷ l)
     go true p fs e = let z = eqb-true c 44 p in cc
     go false p [] e = let z : _≡_ {A = ℕ} 0 1 = cc in absurd (omega arith)
     go false p (f ∷ fs) e = let z : f ++ joined fs ≡ l = cc in ap (λ (x : List ℕ). 44 ∷ (c ∷ x)) z
@@ -255,7 +251,7 @@ text-visible A B C =
     each-append (each-map plain-visible A) (more comma (each-append (each-map plain-visible B) (more comma (each-map plain-visible C))))
 
 text-fields : {a b c : List ℕ} → Each Plain a → Each Plain b → Each Plain c → fieldsOf (a ++ 44 ∷ (b ++ 44 ∷ c)) ≡ a ∷ b ∷ c ∷ []
-text-fields {a = a} {b = b} {c = c} A B C = fields-comma A (b ++ 44 ∷ c) ∙ ap (λ (x : List (List ℕ)). a ∷ x) (fields-comma B c ∙ ap (λ (x : List (List ℕ)). b ∷ x) (fields-last C))
+text-fields {a = a} {b = b} {c = c} A B C = fields-comma A (b ++ 44 ∷ c) ∙ ap (λ (x : List (List ℕ)). a ∷ x) (fields-comma B c ∙ ap (λ (x : List (List ℕ)). b ∷ x) (fields-one _ (plain-until C)))
 
 -- the bytes' own checks passed, the numbers decide
 clear-line : (l : List ℕ) → ascii l ≡ true → lineSize l ≤ 256 → readPositionOf l ≡ fromNumbers (fieldNumbers l)
@@ -379,7 +375,7 @@ pub reader-total-only : (l : List ℕ) → readPositionOf l .refusal ≡ 0 → S
 unfolding readPositionOf
 reader-total-only l e =
     let ns = fieldNumbers l in
-    let zero-refusal : lineRefusal l ≡ 0 = unless-zero (lineRefusal l) (placeOf ns) e in
+    let zero-refusal : lineRefusal l ≡ 0 = unless-zero (lineRefusal l) (positionSaid ns) e in
     let u = unrefused l zero-refusal in
     let f = three (fieldsOf (trim l)) (u .three) in
     let inside = subst (λ (fs : List (List ℕ)). offLimits (fieldValue (getD (map number fs) 0 Nothing)) (fieldValue (getD (map number fs) 1 Nothing)) (fieldValue (getD (map number fs) 2 Nothing)) ≡ false) (f .is) (u .inside) in
@@ -405,7 +401,7 @@ reader-total-only l e =
             size = u .size;
             inside = inside;
           };
-      is = ap (λ (k : ℕ). unless refusedPosition k (placeOf ns)) zero-refusal ∙ ap (λ (fs : List (List ℕ)). placeOf (map number fs)) (f .is);
+      is = ap (λ (k : ℕ). unless refusedPosition k (positionSaid ns)) zero-refusal ∙ ap (λ (fs : List (List ℕ)). positionSaid (map number fs)) (f .is);
     }
 
 -- A line is accepted exactly where it is a position line.

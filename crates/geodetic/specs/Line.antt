@@ -22,14 +22,14 @@ lineSize l =
     cond (eqb (getD l (n - 1) 0) (code "\n")) (cond (eqb (getD l (n - 2) 0) (code "\r")) (n - 2) (n - 1)) n
 
 -- c before the first field
-unfoldable pub before : ℕ → List (List ℕ) → List (List ℕ)
-before c [] = (c ∷ []) ∷ []
-before c (f ∷ fs) = (c ∷ f) ∷ fs
+unfoldable pub ontoFirst : ℕ → List (List ℕ) → List (List ℕ)
+ontoFirst c [] = (c ∷ []) ∷ []
+ontoFirst c (f ∷ fs) = (c ∷ f) ∷ fs
 
 -- what stands between commas: a field more than there are commas
 unfoldable pub fieldsOf : List ℕ → List (List ℕ)
 fieldsOf [] = [] ∷ []
-fieldsOf (c ∷ l) = cond (eqb c (code ",")) ([] ∷ fieldsOf l) (before c (fieldsOf l))
+fieldsOf (c ∷ l) = cond (eqb c (code ",")) ([] ∷ fieldsOf l) (ontoFirst c (fieldsOf l))
 
 -- what the fields come to, each as it stands: a blank in a field belongs to it
 abbrev pub fieldNumbers : List ℕ → List Number
@@ -78,15 +78,15 @@ module _ (ns : List Number) where
   checks = (refusal.number-size if oneTooLong) ∷ (refusal.position-range if noPlace) ∷ []
 
   -- the place that they give
-  abbrev pub placeOf : Position
-  placeOf = wgs84ToEcefOf (fieldValue lat) (fieldValue lon) (fieldValue alt)
+  abbrev pub positionSaid : Position
+  positionSaid = wgs84ToEcefOf (fieldValue lat) (fieldValue lon) (fieldValue alt)
 
   unfoldable pub fromNumbers : Position
-  fromNumbers = unless refusedPosition (first checks) placeOf
+  fromNumbers = unless refusedPosition (first checks) positionSaid
 
 -- the bytes' own checks, then those
 unfoldable pub lineRefusal : List ℕ → ℕ
 lineRefusal l = first ((refusal.non-ascii if not (ascii l)) ∷ (refusal.long-line if ltb 256 (lineSize l)) ∷ checks (fieldNumbers l))
 
 unfoldable pub readPositionOf : List ℕ → Position
-readPositionOf l = unless refusedPosition (lineRefusal l) (placeOf (fieldNumbers l))
+readPositionOf l = unless refusedPosition (lineRefusal l) (positionSaid (fieldNumbers l))

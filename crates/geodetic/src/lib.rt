@@ -6,7 +6,7 @@ ghost use mathlib.Core.Path.{_≡_};
 ghost use Rattle.geodetic.specs.Ellipsoid as Ellipsoid;
 use frame::Vec3;
 
-// Earth-fixed metres, as the fit takes them; zeros but for the refusal's number.
+// Earth-fixed metres, as the fit takes them, and 0; if refused, the number and zeros.
 pub struct Position {
     pub refusal: u32,
     pub ecef: Vec3,

@@ -1,7 +1,7 @@
 -- The refusals of documents 01 and 02, by number; src/lib.rt has the same names for the code.
 use Prim.Native.Nat.{ℕ}
 
--- a pass file holds a byte above 127
+-- a pass file or a position line holds a byte above 127
 abbrev pub non-ascii : ℕ
 non-ascii = 1
 

@@ -1,7 +1,7 @@
 // The refusals of documents 01 and 02, by number. 0 says that a call was not refused.
 
 // From the input.
-// A pass file holds a byte above 127.
+// A pass file or a position line holds a byte above 127.
 pub const NON_ASCII: u32 = 1;
 
 // A line has more than 256 bytes, its end not counted.
