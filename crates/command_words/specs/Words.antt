@@ -1,5 +1,5 @@
 -- What the command's words say.
-use Prim.Native.Nat.{ℕ, _+_, _-_}
+use Prim.Native.Nat.{ℕ, _+_, _-_, _≤_}
 use mathlib.Core.Bool.{Bool, true, false, cond, _||_}
 use mathlib.Core.List.{List}
 use lib.Dec.{ltb, eqb}
@@ -18,11 +18,11 @@ use Rattle.geodetic.specs.declared.Position.{Position}
 use Rattle.decimal.specs.Read.{number}
 use Rattle.decimal.specs.declared.read.Number.{Number}
 use Rattle.decimal.specs.declared.read.Number.the-variants.{Nothing, Value, Refused}
-use Rattle.command_words.specs.declared.Files.{Files}
-use Rattle.command_words.specs.declared.Files.the-variants.{TooFew, TooMany, Named}
 use Rattle.command_words.specs.declared.Layout.{Layout}
 use Rattle.command_words.specs.declared.Mast.{Mast}
 use Rattle.command_words.specs.declared.Mast.the-variants.{At, NoNumber, LongNumber, NoPlace}
+use Rattle.command_words.specs.declared.Request.{Request}
+use Rattle.command_words.specs.declared.Request.the-variants.{TooFew, TooMany, Fit}
 
 abbrev pub asReceived : List ℕ
 asReceived = bytes "--as-received"
@@ -58,14 +58,6 @@ abbrev pub mastWords : Bool → ℕ
 mastWords true = 2
 mastWords false = 4
 
--- the program's name and these, then 1 to 16 files
-unfoldable pub filesOf : Bool → ℕ → Files
-filesOf line n = let k = mastWords line in cond (ltb n (k + 2)) TooFew (cond (ltb (k + 17) n) TooMany (Named (n - (k + 1))))
-
--- behind --as-received or without it, which word the first file is
-unfoldable pub layoutOf : Bool → Bool → Layout
-layoutOf received line = record { received = received; first = cond received 2 1 + mastWords line }
-
 -- what follows from word k, if it is a number
 abbrev pub ifNumber : ℕ → Number → (Float → Mast) → Mast
 ifNumber k Nothing next = NoNumber k
@@ -92,3 +84,19 @@ lineMast p i = cond (eqb (p .refusal) 0) (inclinationOf (p .ecef) i) (NoPlace (p
 -- of four words, or of two where the first is a position line; the first that is wrong answers
 unfoldable pub mastOf : List ℕ → List ℕ → List ℕ → List ℕ → Mast
 mastOf x y z i = cond (isLine x) (lineMast (readPositionOf x) (number y)) (xOf (number x) (number y) (number z) (number i))
+
+-- the files stand behind the program's name, maybe --as-received, and k words of mast and inclination
+abbrev pub layoutOf : Bool → ℕ → ℕ → Layout
+layoutOf received k files = record { received = received; first = cond received 2 1 + k; files = files }
+
+-- Of n words, the program's name among them and --as-received not: the name, those of mast and inclination, x y z i or the first two of them, then 1
+-- to 16 files.
+unfoldable pub requestOf : Bool → ℕ → List ℕ → List ℕ → List ℕ → List ℕ → Request
+requestOf received n x y z i =
+    let k = mastWords (isLine x) in
+    cond (ltb n (k + 2)) TooFew (cond (ltb (k + 17) n) TooMany (Fit (mastOf x y z i) (layoutOf received k (n - (k + 1)))))
+
+-- what is true of every request's files (proofs/Counted.antt)
+pub record Few (l : Layout) : Type 0 where
+  pub files : l .files ≤ 16
+  pub first : l .first ≤ 6

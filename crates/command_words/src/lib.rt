@@ -3,7 +3,7 @@
 ghost use mathlib.Core.Path.{_≡_};
 ghost use Prim.Native.Nat.{_≤_};
 ghost use Rattle.decimal.specs.Read.{spells};
-ghost use Rattle.command_words.specs.Words.{asReceived, offGround, isLine, mastWords, filesOf, layoutOf, mastOf, xOf, yOf, zOf, inclinationOf, lineMast};
+ghost use Rattle.command_words.specs.Words.{asReceived, offGround, isLine, mastWords, layoutOf, requestOf, mastOf, xOf, yOf, zOf, inclinationOf, lineMast};
 use decimal::read;
 use decimal::read::Number;
 use frame::Vec3;
@@ -28,17 +28,11 @@ pub fn is_off_ground(v: Vec3) -> bool
     6500e3 < d
 }
 
-// How many files are named.
-pub enum Files {
-    TooFew,
-    TooMany,
-    Named(usize),
-}
-
-// Whether --as-received was said, and which word the first file is.
+// Whether --as-received was said, which word the first file is, and how many files there are.
 pub struct Layout {
     pub received: bool,
     pub first: usize,
+    pub files: usize,
 }
 
 // The mast's position in metres and an inclination in radians; or which of X, Y, Z and the inclination, counted from 1, is no number, or
@@ -50,8 +44,15 @@ pub enum Mast {
     NoPlace(u32),
 }
 
+// What the words ask for.
+pub enum Request {
+    TooFew,
+    TooMany,
+    Fit(Mast, Layout),
+}
+
 // A first word with a comma is a position line.
-pub fn is_line(w: &[u8]) -> bool
+fn is_line(w: &[u8]) -> bool
     ensures { λ r. ⌜ r ≡ isLine (now (w .entry)) ⌝ }
 {
     pieces::until(b',', w) < w.len()
@@ -62,37 +63,6 @@ fn mast_words(line: bool) -> usize
     ensures { λ r. ⌜ (r ≡ mastWords line) × (r ≤ 4) ⌝ }
 {
     if line { 2 } else { 4 }
-}
-
-// Of so many words, the program's own name among them, of which the first may be a position line.
-pub fn files_of(line: bool, words: usize) -> Files
-    ensures { λ r. ⌜ r ≡ filesOf line words ⌝ }
-{
-    let k = mast_words(line);
-    if words < k + 2 {
-        return Files::TooFew;
-    }
-    if k + 17 < words {
-        return Files::TooMany;
-    }
-    Files::Named(words - (k + 1))
-}
-
-// Where the files stand, behind --as-received or not, and behind a position line or X Y Z.
-pub fn layout_of(received: bool, line: bool) -> Layout
-    ensures { λ r. ⌜ r ≡ layoutOf received line ⌝ }
-{
-    let k = mast_words(line);
-    if received {
-        return Layout {
-            received,
-            first: 2 + k,
-        };
-    }
-    Layout {
-        received,
-        first: 1 + k,
-    }
 }
 
 fn inclination_of(v: Vec3, i: Number) -> Mast
@@ -146,7 +116,7 @@ fn line_of(p: Position, i: Number) -> Mast
 }
 
 // What the first four words say, or, where the first is a position line, the first two; the first that is wrong answers.
-pub fn mast_of(x: &[u8], y: &[u8], z: &[u8], i: &[u8]) -> Mast
+fn mast_of(x: &[u8], y: &[u8], z: &[u8], i: &[u8]) -> Mast
     ensures { λ r. ⌜ r ≡ mastOf (now (x .entry)) (now (y .entry)) (now (z .entry)) (now (i .entry)) ⌝ }
 {
     if is_line(x) {
@@ -157,4 +127,38 @@ pub fn mast_of(x: &[u8], y: &[u8], z: &[u8], i: &[u8]) -> Mast
     let vz = read::parse(z);
     let vi = read::parse(i);
     x_of(vx, vy, vz, vi)
+}
+
+// Where the files stand, behind k words of mast and inclination.
+fn layout_of(received: bool, k: usize, files: usize) -> Layout
+    requires { ⌜ k ≤ 4 ⌝ }
+    ensures { λ r. ⌜ r ≡ layoutOf received k files ⌝ }
+{
+    if received {
+        return Layout {
+            received,
+            first: 2 + k,
+            files,
+        };
+    }
+    Layout {
+        received,
+        first: 1 + k,
+        files,
+    }
+}
+
+// Of so many words, the program's own name among them and --as-received not, of which x, y, z and i follow the name.
+pub fn request_of(received: bool, words: usize, x: &[u8], y: &[u8], z: &[u8], i: &[u8]) -> Request
+    ensures { λ r. ⌜ r ≡ requestOf received words (now (x .entry)) (now (y .entry)) (now (z .entry)) (now (i .entry)) ⌝ }
+{
+    let k = mast_words(is_line(x));
+    if words < k + 2 {
+        return Request::TooFew;
+    }
+    if k + 17 < words {
+        return Request::TooMany;
+    }
+    let layout = layout_of(received, k, words - (k + 1));
+    Request::Fit(mast_of(x, y, z, i), layout)
 }

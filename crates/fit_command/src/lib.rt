@@ -4,16 +4,18 @@ mod fitting;
 
 ghost use Prim.Native.Nat.{_≤_};
 ghost use Rattle.io.specs.Counts.{Counts};
-use command_words::Files;
+ghost use Rattle.command_words.specs.Words.{Few};
 use command_words::Layout;
 use command_words::Mast;
+use command_words::Request;
 use frame::Vec3;
 
 // Gathers the files and fits.
-fn fit_files(layout: Layout, n: usize, rec_ecef: Vec3, initial_i: f64)
-    requires { ⌜ (n ≤ 16) × (layout .first ≤ 6) ⌝ }
+fn fit_files(layout: Layout, rec_ecef: Vec3, initial_i: f64)
+    requires { ⌜ Few layout ⌝ }
 {
     let first = layout.first;
+    let n = layout.files;
     let mut counts = [0u32; 16];
     let mut times = [0i64; 4096];
     let mut freqs = [0.0f64; 4096];
@@ -61,7 +63,8 @@ fn word(i: usize, out: &mut [u8]) -> usize
     n
 }
 
-// The same of the word that may be a position line; of one that is too long, as much as finds room, which is refused for its length.
+// The same of the word that may be a position line; of one that is too long, as much as finds room, which is then more than a number or a
+// position line can have.
 fn first_word(i: usize, out: &mut [u8]) -> usize
     ensures { λ r. ⌜ Counts r (now (out .exit)) ⌝ }
 {
@@ -76,15 +79,24 @@ fn first_word(i: usize, out: &mut [u8]) -> usize
     n
 }
 
-// Whether word k is a position line.
-fn is_line(k: usize) -> bool {
-    let mut w = [0u8; 259];
-    let n = first_word(k, &mut w);
-    command_words::is_line(&w[..n])
+// The mast, then the files.
+fn fit_mast(m: Mast, layout: Layout)
+    requires { ⌜ Few layout ⌝ }
+{
+    match m {
+        Mast::At(rec_ecef, initial_i) => {
+            messages::position(rec_ecef);
+            fit_files(layout, rec_ecef, initial_i);
+        }
+        Mast::NoNumber(k) => messages::no_number(k),
+        Mast::LongNumber(k) => messages::long_number(k),
+        Mast::NoPlace(k) => messages::no_place(k),
+    }
 }
 
-// The words of mast and inclination, from word k on. A position line has 256 bytes at most, and a line end.
-fn mast(k: usize) -> Mast
+// Of so many words, the program's name among them and `--as-received` not, of which the mast's first is word k. A position line has 256 bytes at
+// most, and a line end.
+fn words_from(k: usize, received: bool, count: usize)
     requires { ⌜ k ≤ 2 ⌝ }
 {
     let mut x = [0u8; 259];
@@ -95,35 +107,18 @@ fn mast(k: usize) -> Mast
     let ny = word(k + 1, &mut y);
     let nz = word(k + 2, &mut z);
     let ni = word(k + 3, &mut i);
-    command_words::mast_of(&x[..nx], &y[..ny], &z[..nz], &i[..ni])
-}
-
-// The mast's words, from word k on, then the n files.
-fn numbers(k: usize, layout: Layout, n: usize)
-    requires { ⌜ (n ≤ 16) × (k ≤ 2) × (layout .first ≤ 6) ⌝ }
-{
-    let m = mast(k);
-    match m {
-        Mast::At(rec_ecef, initial_i) => {
-            messages::position(rec_ecef);
-            fit_files(layout, n, rec_ecef, initial_i);
-        }
-        Mast::NoNumber(k) => messages::no_number(k),
-        Mast::LongNumber(k) => messages::long_number(k),
-        Mast::NoPlace(k) => messages::no_place(k),
-    }
-}
-
-// Of so many words, the program's name among them and `--as-received` not, of which the mast's first is word k.
-fn words_from(k: usize, received: bool, count: usize)
-    requires { ⌜ k ≤ 2 ⌝ }
-{
-    let line = is_line(k);
-    let named = command_words::files_of(line, count);
-    match named {
-        Files::TooFew => messages::usage(),
-        Files::TooMany => messages::too_many(),
-        Files::Named(n) => numbers(k, command_words::layout_of(received, line), n),
+    let request = command_words::request_of(
+        received,
+        count,
+        &x[..nx],
+        &y[..ny],
+        &z[..nz],
+        &i[..ni],
+    );
+    match request {
+        Request::TooFew => messages::usage(),
+        Request::TooMany => messages::too_many(),
+        Request::Fit(m, layout) => fit_mast(m, layout),
     }
 }
 
