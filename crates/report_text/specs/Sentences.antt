@@ -47,7 +47,7 @@ unfoldable pub workSentence : ℕ → List ℕ
 workSentence =
     among (
     (11 says "the orbit cannot be printed, or the name is over 24 bytes or has a byte outside 32 to 126")
-    ∷ (13 says "latitude, longitude and height are not three numbers with commas between them, within 90 and 360 degrees and -500 to 10000 m")
+    ∷ (13 says "latitude, longitude and height are not three numbers with commas and no blanks between them, within 90 and 360 degrees and -500 to 10000 m")
     ∷ (21 says "too little memory was lent")
     ∷ (23 says "a moment of a prediction lies over 8000000000000 s from 1970")
     ∷ (24 says "no orbit fits: the best sum is above 1e11, or no trial gave one")

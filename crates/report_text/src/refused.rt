@@ -68,7 +68,7 @@ fn work_sentence(k: u32, out: &mut [u8], at: usize) -> usize
     }
     if k == 13 {
         return append::text(
-            b"latitude, longitude and height are not three numbers with commas between them, within 90 and 360 degrees and -500 to 10000 m",
+            b"latitude, longitude and height are not three numbers with commas and no blanks between them, within 90 and 360 degrees and -500 to 10000 m",
             out,
             at,
         );
