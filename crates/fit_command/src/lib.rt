@@ -63,8 +63,8 @@ fn word(i: usize, out: &mut [u8]) -> usize
     n
 }
 
-// The same of the word that may be a position line; of one that is too long, as much as finds room, which is then more than a number or a
-// position line can have.
+// The same of the word that may be a position line; of one that is too long, as much as finds room: more than any number or position line that
+// is taken has.
 fn first_word(i: usize, out: &mut [u8]) -> usize
     ensures { λ r. ⌜ Counts r (now (out .exit)) ⌝ }
 {
