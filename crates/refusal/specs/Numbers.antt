@@ -53,6 +53,18 @@ limits = 12
 abbrev pub position-range : ℕ
 position-range = 13
 
+-- an element line has not 69 bytes, or a byte that may not stand in its column
+abbrev pub line-columns : ℕ
+line-columns = 14
+
+-- an element line's column 69 is not its checksum
+abbrev pub line-checksum : ℕ
+line-checksum = 15
+
+-- the eccentricity of element lines is not zero
+abbrev pub eccentric : ℕ
+eccentric = 16
+
 -- a lent output or scratch is too short
 abbrev pub short-memory : ℕ
 short-memory = 21

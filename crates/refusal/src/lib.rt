@@ -40,6 +40,15 @@ pub const LIMITS: u32 = 12;
 // A latitude, longitude or height is out of range or NaN, or a line is not three such numbers.
 pub const POSITION_RANGE: u32 = 13;
 
+// An element line has not 69 bytes, or a byte that may not stand in its column.
+pub const LINE_COLUMNS: u32 = 14;
+
+// An element line's column 69 is not its checksum.
+pub const LINE_CHECKSUM: u32 = 15;
+
+// The eccentricity of element lines is not zero.
+pub const ECCENTRIC: u32 = 16;
+
 // From the state.
 // A lent output or scratch is too short.
 pub const SHORT_MEMORY: u32 = 21;
