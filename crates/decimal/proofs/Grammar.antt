@@ -11,6 +11,7 @@ use lib.ListN.{length, getD, take, drop, drop-of-length-le, length-drop, length-
 use lib.Seq.{getD-append-add, drop-drop, take-all, take-at, drop-at, getD-at, length-take-le}
 use lib.Ieee.{nan, inf, binary64, round}
 use borrow.Author.Tests.{eq-eqb, ne-eqb, eqb-true, eqb-false, le-leb, lt-leb, leb-true}
+use Rattle.laws.proofs.Tests.{and-true}
 use Rattle.laws.proofs.Lists.{here}
 use Rattle.text.specs.Text.{bytes}
 use Rattle.decimal.specs.Read.{isDigit, digitRun, withDigits, lower, spells, name, sized, exponentAt, exponent, ended, unsigned, number}
@@ -296,18 +297,13 @@ at-place m x i k e = sym (drop-drop k i (m ++ x)) ∙ ap (drop k) (drop-at m x i
 byte-at : (m x : List ℕ) (i k : ℕ) → length m ≡ i → getD (m ++ x) (i + k) 0 ≡ getD x k 0
 byte-at m x i k e = ap (λ (j : ℕ). getD (m ++ x) (j + k) 0) (sym e) ∙ getD-append-add m x k 0
 
-first-digit : (c : ℕ) → isDigit c ≡ true → (48 ≤ c) × (c ≤ 57)
-first-digit c e = go (leb 48 c) refl (leb c 57) refl e
-  where
-    go : (a : Bool) → leb 48 c ≡ a → (b : Bool) → leb c 57 ≡ b → (a && b) ≡ true → (48 ≤ c) × (c ≤ 57)
-    go true p true q f = (leb-true 48 c p, leb-true c 57 q)
-    go true p false q f = let z : _≡_ {A = ℕ} 0 1 = cc in absurd (omega arith)
-    go false p b q f = let z : _≡_ {A = ℕ} 0 1 = cc in absurd (omega arith)
+pub digit-range : (c : ℕ) → isDigit c ≡ true → (48 ≤ c) × (c ≤ 57)
+digit-range c e = let t = and-true (leb 48 c) (leb c 57) e in (leb-true 48 c (t .0), leb-true c 57 (t .1))
 
 -- digits begin with no sign
 digits-first : {ds : List ℕ} → Digits ds → 0 < length ds → (48 ≤ getD ds 0 0) × (getD ds 0 0 ≤ 57)
 digits-first no-digit h = absurd (omega arith)
-digits-first (digit e d) h = first-digit _ e
+digits-first (digit e d) h = digit-range _ e
 
 module _ (s : Bool) (l : List ℕ) (w p : ℕ) (m ds : List ℕ) (f : Found l w p m ds) where
   exponent-at-takes : (en : Bool) (x : ℕ) (es : List ℕ) → drop x l ≡ es → Digits es → 0 < length es → x + length es ≡ length l → exponentAt s l w p en x ≡ limited s ds p en es
@@ -471,11 +467,11 @@ body-takes {n = n} (is-number (point-first ws ps W P h) X) = pointed-takes n ws 
 
 digits-begin : (x ws : List ℕ) → Digits ws → 0 < length ws → 46 ≤ getD (ws ++ x) 0 0
 digits-begin x [] W h = absurd (omega arith)
-digits-begin x (c ∷ ws) (digit e d) h = let k = first-digit c e in omega arith
+digits-begin x (c ∷ ws) (digit e d) h = let k = digit-range c e in omega arith
 
 point-begins : (x ws ps : List ℕ) → Digits ws → 46 ≤ getD ((ws ++ 46 ∷ ps) ++ x) 0 0
 point-begins x [] ps W = omega arith
-point-begins x (c ∷ ws) ps (digit e d) = let k = first-digit c e in omega arith
+point-begins x (c ∷ ws) ps (digit e d) = let k = digit-range c e in omega arith
 
 -- no body begins with a sign
 body-first : {n : Bool} {t : List ℕ} {v : Number} → Body n t v → 46 ≤ getD t 0 0
