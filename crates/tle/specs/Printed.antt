@@ -3,7 +3,7 @@ use mathlib.Core.Path.{_≡_}
 use mathlib.Core.Bool.{Bool, true, false, _&&_, _||_, cond}
 use mathlib.Core.List.{List, [], _∷_, _++_}
 use Prim.Native.Nat.{ℕ, zero, suc, _+_, _-_, _*_, _%_, _^_, _≤_}
-use lib.Dec.{T, eqb}
+use lib.Dec.{T, leb, eqb}
 use lib.ListN.{length, take, drop}
 use lib.Ieee.{Float}
 use lib.Ieee.Positive.{num, den}
@@ -15,15 +15,25 @@ use Rattle.tle.specs.Lines.{start1, rest1, start2, middle2, end2, checks
 use Rattle.solution.specs.declared.SolvedOrbit.{SolvedOrbit}
 
 -- ---- what may stand in a column: one byte alone; a digit; and in the leading places of a number, where zeros may be left out from the left,
--- a digit or a blank in the first, in a later one a digit, or a blank behind a blank. The last whole place of a number is a digit.
+-- a digit or a blank in the first, in a later one a digit, or a blank behind a blank. The last whole place of a number is a digit. The other three
+-- stand in lines that are read: a letter from A to Z; such a letter or a blank; a blank, + or -.
 pub data Class : Type 0 where
   only : ℕ → Class
   digit : Class
   leading : Class
   later : Class
+  letter : Class
+  letterOrBlank : Class
+  sign : Class
 
 abbrev pub isBlank : ℕ → Bool
 isBlank c = eqb c (code " ")
+
+abbrev pub isLetter : ℕ → Bool
+isLetter c = leb (code "A") c && leb c (code "Z")
+
+abbrev pub isPlusOrMinus : ℕ → Bool
+isPlusOrMinus c = eqb c (code "+") || eqb c (code "-")
 
 -- c may stand in a column of the class, behind the byte b
 abbrev pub admits : Class → ℕ → ℕ → Bool
@@ -31,6 +41,9 @@ admits (only x) b c = eqb c x
 admits digit b c = isDigit c
 admits leading b c = isDigit c || isBlank c
 admits later b c = isDigit c || (isBlank b && isBlank c)
+admits letter b c = isLetter c
+admits letterOrBlank b c = isLetter c || isBlank c
+admits sign b c = isPlusOrMinus c || isBlank c
 
 -- behind the byte b each byte is of its column's class, and there are as many as columns
 unfoldable pub matchesBehind : ℕ → List Class → List ℕ → Bool
@@ -52,6 +65,14 @@ abbrev pub digitColumns : ℕ → List Class
 digitColumns zero = []
 digitColumns (suc n) = digit ∷ digitColumns n
 
+abbrev pub laterColumns : ℕ → List Class
+laterColumns zero = []
+laterColumns (suc n) = later ∷ laterColumns n
+
+-- a whole number in n columns, two or more
+abbrev pub wholeColumns : ℕ → List Class
+wholeColumns n = leading ∷ laterColumns (n - 2) ++ digitColumns 1
+
 abbrev pub point : List Class
 point = exactly (bytes ".")
 
@@ -63,10 +84,10 @@ unfoldable pub columns1 : List Class
 columns1 = exactly start1 ++ digitColumns 2 ++ digitColumns 3 ++ point ++ digitColumns 8 ++ exactly rest1 ++ digitColumns 1
 
 abbrev pub angleColumns : List Class
-angleColumns = leading ∷ later ∷ digitColumns 1 ++ point ++ digitColumns 4
+angleColumns = wholeColumns 3 ++ point ++ digitColumns 4
 
 abbrev pub motionColumns : List Class
-motionColumns = leading ∷ digitColumns 1 ++ point ++ digitColumns 8
+motionColumns = wholeColumns 2 ++ point ++ digitColumns 8
 
 -- inclination, node, mean anomaly, mean motion and checksum
 unfoldable pub columns2 : List Class
