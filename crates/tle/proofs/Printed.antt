@@ -34,11 +34,11 @@ use Rattle.tle.proofs.Answers.{line1-length, line2-length}
 use Rattle.tle.proofs.Values.{value-text, digit-value, is-digit, fieldClasses, Digital, field-matches, Right, right-cons, right-append, exact}
 
 -- ---- numbers
-carries : (p pad w m : ℕ) (v : Float) (N : ℕ) → UpTo m v → (pad ≡ 32) ⊎ (pad ≡ 48) → p ≤ w → m * 10 ^ p < 10 ^ w → N ≡ readDigits 0 (fixedText pad p (nearestUnits p v) (suc w)) → HalfUnit p v N
-carries p pad w m v N u q h l e =
-    let d : N ≡ nearestUnits p v = e ∙ value-text pad p (nearestUnits p v) w q h (lt-of-le-of-lt (decimal-le p m v (u .size)) l) in
-    let f = half-unit p v in
-    record { range = u .range; above = rw d (f .0); below = rw d (f .1) }
+carries : (p pad w m : ℕ) (v : Float) (N : ℕ) → UpTo m v → (pad ≡ 32) ⊎ (pad ≡ 48) → p ≤ w → m * 10 ^ p < 10 ^ w → N ≡ readDigits 0 (fixedText pad p (nearestUnits p v) (suc w)) → N ≡ nearestUnits p v
+carries p pad w m v N u q h l e = e ∙ value-text pad p (nearestUnits p v) w q h (lt-of-le-of-lt (decimal-le p m v (u .size)) l)
+
+near : (p m : ℕ) (v : Float) (N : ℕ) → UpTo m v → N ≡ nearestUnits p v → HalfUnit p v N
+near p m v N u d = let f = half-unit p v in record { range = u .range; above = rw d (f .0); below = rw d (f .1) }
 
 none : (n : ℕ) → readDigits n [] ≡ n
 unfolding readDigits
@@ -57,15 +57,15 @@ first-digit : (x y : Bool) → T x → T (x || y)
 first-digit true y t = tt
 first-digit false y t = absurd t
 
-digital : Digital digit
+pub digital : Digital digit
 unfolding Digital
 digital b c t = t
 
-leading-digital : Digital leading
+pub leading-digital : Digital leading
 unfolding Digital
 leading-digital b c t = first-digit (isDigit c) (isBlank c) t
 
-later-digital : Digital later
+pub later-digital : Digital later
 unfolding Digital
 later-digital b c t = first-digit (isDigit c) (isBlank b && isBlank c) t
 
@@ -128,7 +128,7 @@ record First (e : Epoch) (l : List ℕ) : Type 0 where
   columns : T (matchesLine columns1 l)
   sum : Checked l
   year : numberIn 19 20 l ≡ e .year % 100
-  day : HalfUnit 8 (e .day) (numberIn 21 32 l)
+  day : numberIn 21 32 l ≡ nearestUnits 8 (e .day)
 
 body1-sum : (e : Epoch) → take 68 (line1 e) ≡ body1 (e .year) (e .day)
 unfolding line1 closed body1 fixedText
@@ -163,12 +163,12 @@ first e h =
 record Second (o : SolvedOrbit) (l : List ℕ) : Type 0 where
   columns : T (matchesLine columns2 l)
   sum : Checked l
-  inclination : HalfUnit 4 (printedDegrees (o .i)) (numberIn 9 16 l)
-  node : HalfUnit 4 (printedDegrees (o .raan0)) (numberIn 18 25 l)
+  inclination : numberIn 9 16 l ≡ nearestUnits 4 (printedDegrees (o .i))
+  node : numberIn 18 25 l ≡ nearestUnits 4 (printedDegrees (o .raan0))
   eccentricity : numberIn 27 33 l ≡ 0
   perigee : numberIn 35 42 l ≡ 0
-  anomaly : HalfUnit 4 (printedDegrees (o .u0)) (numberIn 44 51 l)
-  motion : HalfUnit 8 (meanMotionOf (o .a)) (numberIn 53 63 l)
+  anomaly : numberIn 44 51 l ≡ nearestUnits 4 (printedDegrees (o .u0))
+  motion : numberIn 53 63 l ≡ nearestUnits 8 (meanMotionOf (o .a))
   revolution : numberIn 64 68 l ≡ 0
 
 abbrev bodyOf : SolvedOrbit → List ℕ
@@ -237,7 +237,9 @@ epoch-fits t h = epoch-up (secondsOf (t .seconds)) (t .nanos) (at-is (t .seconds
 
 pub printed : (o : SolvedOrbit) → taken (o .epoch) ≡ true → T (orbitFits o) → Printed o (line1 (lineEpoch (o .epoch))) (line2 o)
 printed o h g =
-    let a = first (lineEpoch (o .epoch)) (epoch-fits (o .epoch) h) in
+    let e = epoch-fits (o .epoch) h in
+    let s = sound o g in
+    let a = first (lineEpoch (o .epoch)) e in
     let b = second o g in
     record {
       length-1 = line1-length (lineEpoch (o .epoch));
@@ -247,14 +249,36 @@ printed o h g =
       checksum-1 = a .sum;
       checksum-2 = b .sum;
       year = a .year;
+      day-of-year = near 8 367 _ _ e (a .day);
+      inclination = near 4 360 _ _ (angle-up (o .i) (s .i-fits)) (b .inclination);
+      node = near 4 360 _ _ (angle-up (o .raan0) (s .raan0-fits)) (b .node);
+      eccentricity = b .eccentricity;
+      perigee = b .perigee;
+      mean-anomaly = near 4 360 _ _ (angle-up (o .u0) (s .u0-fits)) (b .anomaly);
+      mean-motion = near 8 54 _ _ (motion-up (o .a) (s .radius)) (b .motion);
+      revolution = b .revolution;
+    }
+
+-- ---- each number as it is printed, in units of its last place
+pub record Digits (o : SolvedOrbit) (l1 l2 : List ℕ) : Type 0 where
+  pub day-of-year : numberIn 21 32 l1 ≡ nearestUnits 8 (lineEpoch (o .epoch) .day)
+  pub inclination : numberIn 9 16 l2 ≡ nearestUnits 4 (printedDegrees (o .i))
+  pub node : numberIn 18 25 l2 ≡ nearestUnits 4 (printedDegrees (o .raan0))
+  pub mean-anomaly : numberIn 44 51 l2 ≡ nearestUnits 4 (printedDegrees (o .u0))
+  pub anomaly-most : nearestUnits 4 (printedDegrees (o .u0)) ≤ 3600000
+  pub mean-motion : numberIn 53 63 l2 ≡ nearestUnits 8 (meanMotionOf (o .a))
+
+pub digits : (o : SolvedOrbit) → taken (o .epoch) ≡ true → T (orbitFits o) → Digits o (line1 (lineEpoch (o .epoch))) (line2 o)
+digits o h g =
+    let a = first (lineEpoch (o .epoch)) (epoch-fits (o .epoch) h) in
+    let b = second o g in
+    record {
       day-of-year = a .day;
       inclination = b .inclination;
       node = b .node;
-      eccentricity = b .eccentricity;
-      perigee = b .perigee;
       mean-anomaly = b .anomaly;
+      anomaly-most = decimal-le 4 360 (printedDegrees (o .u0)) (angle-up (o .u0) (sound o g .u0-fits) .size);
       mean-motion = b .motion;
-      revolution = b .revolution;
     }
 
 -- ---- the same of the bytes that a call leaves in `out`
@@ -279,14 +303,31 @@ second-at name k l q h g =
     let e : length k + 1 ≡ 70 = omega arith in
     ap (take 69) (drop-append-add name (10 ∷ (k ++ (10 ∷ (l ++ q)))) 71 ∙ ap (λ (n : ℕ). drop n (k ++ (10 ∷ (l ++ q)))) (sym e) ∙ drop-append-add k (10 ∷ (l ++ q)) 1) ∙ take-at l q 69 g
 
-pub format-printed : (name out out′ : List ℕ) (o : SolvedOrbit) (r : Catalog) → Formats name o out out′ r → r .refusal ≡ 0
-    → Printed o (take 69 (drop (length name + 1) out′)) (take 69 (drop (length name + 71) out′))
-format-printed name out out′ o r f z =
+pub record WrittenLines (o : SolvedOrbit) (l1 l2 : List ℕ) : Type 0 where
+  pub first-is : l1 ≡ line1 (lineEpoch (o .epoch))
+  pub second-is : l2 ≡ line2 o
+  pub epoch-taken : taken (o .epoch) ≡ true
+  pub orbit-fits : T (orbitFits o)
+
+pub format-lines : (name out out′ : List ℕ) (o : SolvedOrbit) (r : Catalog) → Formats name o out out′ r → r .refusal ≡ 0
+    → WrittenLines o (take 69 (drop (length name + 1) out′)) (take 69 (drop (length name + 71) out′))
+format-lines name out out′ o r f z =
     let e : linesRefusal name o (length out) ≡ 0 = sym (f .refusal) ∙ z in
     let a = accepted name o (length out) e in
     let rest = drop (length name + 141) out in
-    let t : out′ ≡ name ++ (10 ∷ (line1 (lineEpoch (o .epoch)) ++ (10 ∷ (line2 o ++ (10 ∷ rest))))) =
+    let l1 = line1 (lineEpoch (o .epoch)) in
+    let s1 = line1-length (lineEpoch (o .epoch)) in
+    let t : out′ ≡ name ++ (10 ∷ (l1 ++ (10 ∷ (line2 o ++ (10 ∷ rest))))) =
     f .text ∙ ap (λ (n : ℕ). cond (eqb n 0) (catalogOf name o ++ rest) out) e ∙ catalog-is name rest o in
-    subst (λ (l : List ℕ). Printed o l (take 69 (drop (length name + 71) out′))) (sym (ap (λ (x : List ℕ). take 69 (drop (length name + 1) x)) t ∙ first-at name (line1 (lineEpoch (o .epoch))) (10 ∷ (line2 o ++ (10 ∷ rest))) (line1-length (lineEpoch (o .epoch)))))
-    (subst (λ (l : List ℕ). Printed o (line1 (lineEpoch (o .epoch))) l) (sym (ap (λ (x : List ℕ). take 69 (drop (length name + 71) x)) t ∙ second-at name (line1 (lineEpoch (o .epoch))) (line2 o) (10 ∷ rest) (line1-length (lineEpoch (o .epoch))) (line2-length o)))
-    (printed o (a .0) (a .1)))
+    record {
+      first-is = ap (λ (x : List ℕ). take 69 (drop (length name + 1) x)) t ∙ first-at name l1 (10 ∷ (line2 o ++ (10 ∷ rest))) s1;
+      second-is = ap (λ (x : List ℕ). take 69 (drop (length name + 71) x)) t ∙ second-at name l1 (line2 o) (10 ∷ rest) s1 (line2-length o);
+      epoch-taken = a .0;
+      orbit-fits = a .1;
+    }
+
+pub format-printed : (name out out′ : List ℕ) (o : SolvedOrbit) (r : Catalog) → Formats name o out out′ r → r .refusal ≡ 0
+    → Printed o (take 69 (drop (length name + 1) out′)) (take 69 (drop (length name + 71) out′))
+format-printed name out out′ o r f z =
+    let l = format-lines name out out′ o r f z in
+    rw (l .first-is, l .second-is) (printed o (l .epoch-taken) (l .orbit-fits))
