@@ -1,0 +1,3 @@
+pub mod Matching
+pub mod Digits
+pub mod Example
