@@ -2,13 +2,12 @@
 use mathlib.Core.Path.{_≡_, sym, ap, _∙_}
 use mathlib.Core.Bool.{Bool, true, false, cond}
 use mathlib.Core.List.{List}
-use Prim.Native.Nat.{ℕ, _+_, _-_, _≤_}
+use Prim.Native.Nat.{ℕ, _-_, _≤_}
 use native.Mathlib.Nat.{min-eq-left, min-le-left, min-le-right, zero-add}
 use native.Mathlib.Omega.{arith}
 use lib.Dec.{eqb, ltb}
 use lib.ListN.{length, take, drop, length-append, length-take, length-drop}
 use lib.Seq.{take-all, length-sets}
-use Rattle.laws.proofs.Lists.{prefix}
 use Rattle.text.specs.Text.{bytes}
 use Rattle.append.specs.Append.{Appends}
 use Rattle.append.proofs.Appending.{called, numeral-length}
@@ -19,11 +18,6 @@ use Rattle.check_line.specs.Check.{nameShown, acceptedLine, refusedLine,
 pub seen : (file : List ℕ) (r : PassFile) {p o q : List ℕ} {i n : ℕ} → r .«name_seen» ≡ true → p ≡ File.nameOf file r → Appends p i o q n
     → Appends (nameShown file r) i o q n
 seen file r e f = called (f ∙ sym (ap (λ (t : Bool). cond t (File.nameOf file r) (bytes "UNKNOWN")) e))
-
-pub inside : (t o p : List ℕ) (i n : ℕ) → Appends t i o p n → (n ≤ length p) × (n ≡ length (take n p))
-inside t o p i n a =
-    let h : n ≤ length p = rw (a .is, length-sets, a .behind) (min-le-right (i + length t) (length o)) in
-    (h, prefix n p h)
 
 either : (n : ℕ) (t : Bool) (a b : List ℕ) → length a ≤ n → length b ≤ n → length (cond t a b) ≤ n
 either n true a b p q = p
