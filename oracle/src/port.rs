@@ -203,12 +203,19 @@ impl<T: Copy + PartialEq + std::fmt::Debug> Lent<T> {
 /// A number that no answer has.
 pub const PATTERN: f64 = -6.28e-271;
 
-/// Lends n floats to a call that writes all of them or refuses and writes none.
-pub fn lent(n: usize, call: impl FnOnce(*mut f64) -> u32) -> Answer<Vec<f64>> {
-    let mut out = Lent::new(n, PATTERN);
+/// The same of a whole number.
+pub const WORD: u64 = 0x5a5a5a5a5a5a5a5a;
+
+/// Lends n places to a call that writes all of them or refuses and writes none.
+fn filled<T: Copy + PartialEq + std::fmt::Debug>(n: usize, pattern: T, call: impl FnOnce(*mut T) -> u32) -> Answer<Vec<T>> {
+    let mut out = Lent::new(n, pattern);
     let refusal = call(out.start());
     let got = out.written(if refusal == 0 { n } else { 0 });
     if refusal == 0 { Ok(got) } else { Err(refusal) }
+}
+
+pub fn lent(n: usize, call: impl FnOnce(*mut f64) -> u32) -> Answer<Vec<f64>> {
+    filled(n, PATTERN, call)
 }
 
 pub mod floats {
@@ -303,10 +310,7 @@ pub fn monna(val: u64, p: u64) -> Answer<f64> {
 }
 
 pub fn unmonna(x: f64, p: u64, digits: u64) -> Answer<u64> {
-    let mut out = Lent::new(1, 0x5a5a5a5a5a5a5a5au64);
-    let refusal = unsafe { wisvalom_inverse_monna_map(x, p, digits as usize, out.start()) };
-    let got = out.written((refusal == 0) as usize);
-    if refusal == 0 { Ok(got[0]) } else { Err(refusal) }
+    filled(1, WORD, |out| unsafe { wisvalom_inverse_monna_map(x, p, digits as usize, out) }).map(|v| v[0])
 }
 
 pub fn padic(a: u64, b: u64, p: u64) -> Answer<f64> {
@@ -329,7 +333,7 @@ pub fn normal(v: [f64; 3]) -> Vec<f64> {
 }
 
 fn drawn(call: impl FnOnce(*mut u64) -> f64) -> (u64, f64) {
-    let mut next = Lent::new(1, 0x5a5a5a5a5a5a5a5au64);
+    let mut next = Lent::new(1, WORD);
     let x = call(next.start());
     (next.written(1)[0], x)
 }
