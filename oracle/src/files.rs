@@ -1,4 +1,4 @@
-//! Pass files and position lines by seed, good and damaged.
+//! Pass files, position lines and element lines by seed, good and damaged.
 use crate::Set;
 use crate::cases;
 use crate::numbers::Random;
@@ -198,6 +198,195 @@ pub fn position(r: &mut Random) -> Vec<u8> {
         damage(r, &mut out);
     }
     out
+}
+
+/// Published element lines: of satellites whose eccentricities are not zero, with blanks for leading zeros, a plus, and two without a designator.
+const PUBLISHED: [[&[u8]; 2]; 8] = [
+    [
+        b"1 25544U 98067A   08264.51782528 -.00002182  00000-0 -11606-4 0  2927",
+        b"2 25544  51.6416 247.4627 0006703 130.5360 325.0288 15.72125391563537",
+    ],
+    [
+        b"1 00005U 58002B   00179.78495062  .00000023  00000-0  28098-4 0  4753",
+        b"2 00005  34.2682 348.7242 1859667 331.7664  19.3264 10.82419157413667",
+    ],
+    [
+        b"1 04632U 70093B   04031.91070959 -.00000084  00000-0  10000-3 0  9955",
+        b"2 04632  11.4628 273.1101 1450506 207.6000 143.9350  1.20231981 44145",
+    ],
+    [
+        b"1 08195U 75081A   06176.33215444  .00000099  00000-0  11873-3 0   813",
+        b"2 08195  64.1586 279.0717 6877146 264.7651  20.2257  2.00491383225656",
+    ],
+    [
+        b"1 23599U 95029B   06171.76535463  .00085586  12891-6  12956-2 0  2905",
+        b"2 23599   6.9327   0.2849 5782022 274.4436  25.2425  4.47796565123555",
+    ],
+    [
+        b"1 20413U 83020D   05363.79166667  .00000000  00000-0  00000+0 0  7041",
+        b"2 20413  12.3514 187.4253 7864447 196.3027 356.5478  0.24690082  7978",
+    ],
+    [
+        b"1 88888U          80275.98708465  .00073094  13844-3  66816-4 0    87",
+        b"2 88888  72.8435 115.9689 0086731  52.6988 110.5714 16.05824518  1058",
+    ],
+    [
+        b"1 11801U          80230.29629788  .01431103  00000-0  14311-1      13",
+        b"2 11801  46.7916 230.4354 7318036  47.4722  10.4117  2.28537848    13",
+    ],
+];
+
+/// The fields of lines 1 and 2 in which blanks may stand for leading zeros: line, first and last column.
+const PADDED: [(usize, usize, usize); 10] =
+    [(1, 3, 7), (1, 21, 23), (1, 65, 68), (2, 3, 7), (2, 9, 11), (2, 18, 20), (2, 35, 37), (2, 44, 46), (2, 53, 54), (2, 64, 68)];
+
+/// The first 68 columns with their checksum.
+pub fn summed(mut line: Vec<u8>) -> Vec<u8> {
+    line.truncate(68);
+    let sum: u64 = line.iter().map(|&b| if b == b'-' { 1 } else if b.is_ascii_digit() { (b - b'0') as u64 } else { 0 }).sum();
+    line.push(b'0' + (sum % 10) as u8);
+    line
+}
+
+fn digit(r: &mut Random) -> u8 {
+    b'0' + r.below(10) as u8
+}
+
+fn digits(r: &mut Random, n: usize) -> String {
+    match r.below(6) {
+        0 => "0".repeat(n),
+        1 => "9".repeat(n),
+        _ => (0..n).map(|_| digit(r) as char).collect(),
+    }
+}
+
+/// So many places, with blanks for all, some or none of the leading zeros.
+fn padded(r: &mut Random, n: usize) -> String {
+    let zeros = r.below(n as u64);
+    let blanks = if r.one_in(2) { zeros } else { r.below(zeros + 1) };
+    let rest = n - zeros as usize;
+    " ".repeat(blanks as usize) + &"0".repeat((zeros - blanks) as usize) + &digits(r, rest)
+}
+
+fn degrees(r: &mut Random) -> String {
+    match r.below(8) {
+        0 => r.pick(&["360.0000", "360.0000", "359.9999", "360.0001", "999.9999", "  0.0000", "000.0000", "  0.0001"]).to_string(),
+        // Inside a turn, as most are.
+        1..=3 => format!("{:8.4}", r.between(0.0, 360.0)),
+        _ => format!("{}.{}", padded(r, 3), digits(r, 4)),
+    }
+}
+
+fn sign(r: &mut Random) -> char {
+    r.pick(&[' ', ' ', '-', '+'])
+}
+
+fn letter(r: &mut Random) -> char {
+    (b'A' + r.below(26) as u8) as char
+}
+
+/// A drag term without a point.
+fn drag(r: &mut Random) -> String {
+    format!("{}{}{}{}", sign(r), digits(r, 5), sign(r), digits(r, 1))
+}
+
+/// Published lines, half of them with the eccentricity made zero.
+pub fn published(r: &mut Random) -> [Vec<u8>; 2] {
+    let mut pair = r.pick(&PUBLISHED).map(|line| line.to_vec());
+    if r.one_in(2) {
+        pair[1][26..33].fill(b'0');
+    }
+    pair.map(summed)
+}
+
+/// Two element lines, whose checksums are still to be counted: published ones, such as the port writes, or of any characters that the columns take.
+fn columns(r: &mut Random) -> [Vec<u8>; 2] {
+    if r.one_in(12) {
+        return published(r);
+    }
+    let day = format!("{}{}", digits(r, 2), if r.one_in(3) { padded(r, 3) } else { format!("{:03}", 1 + r.below(366)) });
+    let (part, motion) = (digits(r, 8), format!("{}.{}", padded(r, 2), digits(r, 8)));
+    let (i, node, perigee, anomaly) = (degrees(r), degrees(r), degrees(r), degrees(r));
+    if r.one_in(4) {
+        let line1 = format!("1 99999U 26999A   {day}.{part}  .00000000  00000-0  00000-0 0  999");
+        return [line1, format!("2 99999 {i} {node} 0000000   0.0000 {anomaly} {motion}00000")].map(String::into_bytes);
+    }
+    let piece: String = (0..3).map(|_| if r.one_in(2) { ' ' } else { letter(r) }).collect();
+    let name = format!("{}{} {}{piece}", padded(r, 5), letter(r), digits(r, 5));
+    let drags = format!("{}.{} {} {}", sign(r), digits(r, 8), drag(r), drag(r));
+    let line1 = format!("1 {name} {day}.{part} {drags} {} {}", digits(r, 1), padded(r, 4));
+    let line2 = format!("2 {} {i} {node} 0000000 {perigee} {anomaly} {motion}{}", padded(r, 5), padded(r, 5));
+    [line1, line2].map(String::into_bytes)
+}
+
+/// Blanks and digits in any order in a field that takes some; or in any column, often in one of a letter or a sign, a byte at the edge of what columns take.
+fn misplace(r: &mut Random, pair: &mut [Vec<u8>; 2]) {
+    let way = r.below(4);
+    if way < 2 {
+        let (line, first, last) = r.pick(&PADDED);
+        for b in &mut pair[line - 1][first - 1..last] {
+            *b = if r.one_in(2) { b' ' } else { digit(r) };
+        }
+        return;
+    }
+    let (line, column) = if way == 2 { (1, r.pick(&[8, 15, 16, 17, 34, 45, 51, 54, 60])) } else { (1 + r.below(2) as usize, 1 + r.below(68) as usize) };
+    pair[line - 1][column - 1] = r.pick(b"  09+-.,AZaz@[/:*\0\n\x7f\x80\xb0\xff");
+}
+
+/// Another checksum; now and then one that is no digit.
+fn miscount(r: &mut Random, line: &mut [u8]) {
+    let other = line[68].wrapping_sub(b'0') as u64 + 1 + r.below(9);
+    line[68] = if r.one_in(8) { r.pick(b" -+/:\n\xb0") } else { b'0' + (other % 10) as u8 };
+}
+
+/// One line or both of another length, or each in the other's place; two columns of a line exchanged, which keeps its sum.
+fn misfit(r: &mut Random, pair: &mut [Vec<u8>; 2]) {
+    let k = r.below(2) as usize;
+    match r.below(10) {
+        0 => pair.swap(0, 1),
+        1 => pair[k] = pair[1 - k].clone(),
+        2 => pair[k].clear(),
+        3 => pair.iter_mut().for_each(|line| line.push(b'\n')),
+        4 => pair[k].extend(r.pick(&["\n", "\r\n", "\r", " ", "0"]).bytes()),
+        5 => pair[k].truncate(68),
+        // A line end in place of the checksum.
+        6 => pair[k][68] = r.pick(b"\n\r"),
+        // Refusals 14 and 15 at once, on different lines.
+        7 => {
+            miscount(r, &mut pair[1 - k]);
+            if r.one_in(2) {
+                pair[k].truncate(68);
+            } else {
+                pair[k].push(b'0');
+            }
+        }
+        _ => pair[k].swap(r.below(68) as usize, r.below(68) as usize),
+    }
+}
+
+/// Two element lines, good or with one fault or some: a column's character, an eccentricity, a checksum, a length; sometimes damaged.
+pub fn elements(r: &mut Random) -> [Vec<u8>; 2] {
+    let mut pair = columns(r);
+    if r.one_in(6) {
+        misplace(r, &mut pair);
+    }
+    if r.one_in(6) {
+        let some = if r.one_in(2) { format!("{:07}", 10u64.pow(r.below(7) as u32)) } else { digits(r, 7) };
+        pair[1][26..33].copy_from_slice(some.as_bytes());
+    }
+    let mut pair = pair.map(summed);
+    if r.one_in(6) {
+        let k = r.below(2) as usize;
+        miscount(r, &mut pair[k]);
+    }
+    if r.one_in(10) {
+        misfit(r, &mut pair);
+    }
+    if r.one_in(12) {
+        let k = r.below(2) as usize;
+        damage(r, &mut pair[k]);
+    }
+    pair
 }
 
 fn blank(r: &mut Random) -> String {

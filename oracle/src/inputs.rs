@@ -11,7 +11,7 @@ pub const KINDS: &[&str] = &[
     "power", "max", "min", "rem_euclid", "to_u64", "to_i64", "wrapping_mul", "draw", "gaussian", "monna", "unmonna", "padic",
     "history", "normal", "jd", "teme", "wgs84", "prop", "pred", "poly", "pca", "rss", "grad", "solve", "search",
     "residuals1", "residuals2", "step1", "step2", "steps1", "steps2", "fit", "lines", "checksum", "file",
-    "load", "store", "fit_lines", "determine", "parse", "put_fixed", "rfc3339", "position",
+    "load", "store", "fit_lines", "determine", "parse", "put_fixed", "rfc3339", "position", "elements",
 ];
 
 /// What an answer of the kind begins with: a refusal, or 1 where something was taken.
@@ -236,6 +236,10 @@ pub fn fields(kind: &str, seed: u64, k: u64) -> Vec<u64> {
         }
         "rfc3339" => l.bytes(&files::moment(r)),
         "position" => l.bytes(&files::position(r)),
+        "elements" => {
+            let [line1, line2] = files::elements(r);
+            l.bytes(&line1).bytes(&line2)
+        }
         "load" => {
             let seed = r.word();
             l.bytes(&files::stored(seed, &cases::set(r).set))

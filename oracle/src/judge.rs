@@ -1,4 +1,4 @@
-//! The original's functions over plain numbers, with the refusals that document 01 adds around them. This file is
+//! The original's functions over plain numbers, with the refusals that documents 01 and 02 add around them. This file is
 //! compiled into both copies of the original. `Err(n)` is refusal n; `PANIC` is a run that makes the original panic.
 #[path = "floats.rs"]
 pub mod floats;
@@ -382,6 +382,94 @@ pub fn lines(name: &[u8], e: [f64; 4], epoch: Moment) -> Answer<Vec<u8>> {
         pass_df2s: vec![],
     };
     Ok(solver::format_tle_catalog(std::str::from_utf8(name).unwrap(), &orbit).into_bytes())
+}
+
+/// The columns of a line from the first to the last of a field, counted from 1 as document 02 counts them.
+fn field(line: &[u8], first: usize, last: usize) -> &[u8] {
+    &line[first - 1..last]
+}
+
+fn digits(field: &[u8]) -> bool {
+    field.iter().all(|b| b.is_ascii_digit())
+}
+
+/// Digits, with blanks in place of leading zeros from the left, save the last place.
+fn padded(field: &[u8]) -> bool {
+    let blanks = field.iter().take_while(|&&b| b == b' ').count();
+    blanks < field.len() && digits(&field[blanks..])
+}
+
+/// So many whole places, a point, and digits.
+fn fixed(field: &[u8], whole: usize) -> bool {
+    padded(&field[..whole]) && field[whole] == b'.' && digits(&field[whole + 1..])
+}
+
+fn signed(b: u8) -> bool {
+    matches!(b, b' ' | b'+' | b'-')
+}
+
+/// A drag term without a point: sign and five digits, sign and digit of its power of ten.
+fn drag(field: &[u8]) -> bool {
+    signed(field[0]) && digits(&field[1..6]) && signed(field[6]) && digits(&field[7..])
+}
+
+/// Line 1: its number, catalogue number and class, the designator, the epoch, three drag terms, a digit, the set number, the checksum.
+fn first_line(line: &[u8]) -> bool {
+    if line.len() != 69 {
+        return false;
+    }
+    let at = |first, last| field(line, first, last);
+    let blank = |column| at(column, column) == b" ";
+    let name = padded(at(3, 7)) && at(8, 8)[0].is_ascii_uppercase();
+    let designator = digits(at(10, 14)) && at(15, 17).iter().all(|&b| b == b' ' || b.is_ascii_uppercase());
+    let epoch = digits(at(19, 20)) && fixed(at(21, 32), 3);
+    let first_drag = signed(at(34, 34)[0]) && at(35, 35) == b"." && digits(at(36, 43));
+    let end = digits(at(63, 63)) && padded(at(65, 68)) && digits(at(69, 69));
+    let between = [2, 9, 18, 33, 44, 53, 62, 64].into_iter().all(blank);
+    at(1, 1) == b"1" && name && designator && epoch && first_drag && drag(at(45, 52)) && drag(at(54, 61)) && end && between
+}
+
+/// Line 2: its number, catalogue number, inclination, node, eccentricity, perigee, mean anomaly, mean motion with the revolution number behind it, the checksum.
+fn second_line(line: &[u8]) -> bool {
+    if line.len() != 69 {
+        return false;
+    }
+    let at = |first, last| field(line, first, last);
+    let blank = |column| at(column, column) == b" ";
+    let angles = [at(9, 16), at(18, 25), at(35, 42), at(44, 51)].into_iter().all(|a| fixed(a, 3));
+    let end = fixed(at(53, 63), 2) && padded(at(64, 68)) && digits(at(69, 69));
+    let between = [2, 8, 17, 26, 34, 43, 52].into_iter().all(blank);
+    at(1, 1) == b"2" && padded(at(3, 7)) && angles && digits(at(27, 33)) && end && between
+}
+
+/// Whether the digits of 68 columns, and one for each minus, give the digit after them.
+fn sum_holds(line: &[u8]) -> bool {
+    let counted = |&b: &u8| if b == b'-' { 1 } else { (b as char).to_digit(10).unwrap_or(0) };
+    let sum: u32 = field(line, 1, 68).iter().map(counted).sum();
+    sum % 10 == counted(&line[68])
+}
+
+/// The field without its point, blanks being zeros: its number, scaled by the places after the point.
+fn scaled(field: &[u8]) -> u64 {
+    field.iter().filter(|b| b.is_ascii_digit()).fold(0, |v, b| 10 * v + (b - b'0') as u64)
+}
+
+/// Two element lines (document 02, [2]); the original has no such reader. Gives year, day, inclination, node, mean anomaly with the perigee in it, and mean
+/// motion. Each refusal is tried on both lines before the next. Nothing is said of numbers that no orbit has, such as day 000 or 999 degrees, so they are taken.
+pub fn elements(line1: &[u8], line2: &[u8]) -> Answer<[u64; 6]> {
+    if !first_line(line1) || !second_line(line2) {
+        return Err(14);
+    }
+    if !sum_holds(line1) || !sum_holds(line2) {
+        return Err(15);
+    }
+    if field(line2, 27, 33) != b"0000000" {
+        return Err(16);
+    }
+    let (year, day) = (scaled(field(line1, 19, 20)), scaled(field(line1, 21, 32)));
+    let angle = |first, last| scaled(field(line2, first, last));
+    let anomaly = (angle(44, 51) + angle(35, 42)) % 3_600_000;
+    Ok([year, day, angle(9, 16), angle(18, 25), anomaly, scaled(field(line2, 53, 63))])
 }
 
 /// The fit, and the lines of an orbit that it accepts.

@@ -115,6 +115,10 @@ pub fn answered(kind: &str, fields: &[u64]) -> Option<Line> {
             l.word(f.seen as u64).bytes(&f.name).float(f.center).ints(&f.times).list(&f.freqs)
         }),
         "position" => l.refused_or(&judge::position(&f.bytes()?), |l, x| l.floats(x)),
+        "elements" => {
+            let x = judge::elements(&f.bytes()?, &f.bytes()?);
+            l.refused_or(&x, |l, x| x.iter().fold(l, |l, &v| l.word(v)))
+        }
         "load" => l.refused_or(&judge::load(&f.bytes()?), |l, s| {
             let counts: Vec<i64> = s.counts.iter().map(|&n| n as i64).collect();
             l.ints(&counts).ints(&s.times).list(&s.freqs)

@@ -1,4 +1,4 @@
-//! The port, through its static libraries (`exports`, `exports_geodetic`, and `probes` for the calls that only the comparison makes), in the shape of
+//! The port, through its static libraries (`exports`, `exports_geodetic`, `exports_element_lines`, and `probes` for the calls that only the comparison makes), in the shape of
 //! `judge.rs`: the kinds of lines are made by the same code for both. Every output is lent between guards and filled with a pattern before the call; after it, whatever should have
 //! been left alone is looked at. KINDS are compared where none is named: searches and fits, which take long, are not among them, nor is what the port does not export.
 #![allow(dead_code)]
@@ -10,7 +10,7 @@ pub const KINDS: &[&str] = &[
     "min", "rem_euclid", "to_u64", "to_i64", "wrapping_mul", "draw", "gaussian", "monna", "unmonna", "padic",
     "history", "normal", "jd", "teme", "wgs84", "prop", "pred", "poly", "pca", "rss", "grad", "solve", "residuals1",
     "residuals2", "step1", "step2", "steps1", "steps2", "lines", "checksum", "file", "load", "store", "parse", "put_fixed",
-    "rfc3339", "position",
+    "rfc3339", "position", "elements",
 ];
 
 #[link(name = "exports", kind = "static")]
@@ -131,6 +131,11 @@ unsafe extern "C" {
 unsafe extern "C" {
     pub fn wisvalom_wgs84_to_ecef(lat_deg: f64, lon_deg: f64, alt_m: f64, out: *mut [f64; 3]) -> u32;
     pub fn wisvalom_read_position(line: *const u8, n: usize, out: *mut [f64; 3]) -> u32;
+}
+
+#[link(name = "exports_element_lines", kind = "static")]
+unsafe extern "C" {
+    pub fn wisvalom_read_element_lines(line1: *const u8, n_line1: usize, line2: *const u8, n_line2: usize, out: *mut [u64; 6]) -> u32;
 }
 
 #[link(name = "probes", kind = "static")]
@@ -362,6 +367,13 @@ pub fn wgs84(lat: f64, lon: f64, alt: f64) -> Answer<[f64; 3]> {
 
 pub fn position(line: &[u8]) -> Answer<[f64; 3]> {
     lent(3, |out| unsafe { wisvalom_read_position(line.as_ptr(), line.len(), out as *mut [f64; 3]) }).map(|v| v.try_into().unwrap())
+}
+
+pub fn elements(line1: &[u8], line2: &[u8]) -> Answer<[u64; 6]> {
+    let call = |out: *mut u64| unsafe {
+        wisvalom_read_element_lines(line1.as_ptr(), line1.len(), line2.as_ptr(), line2.len(), out as *mut [u64; 6])
+    };
+    filled(6, WORD, call).map(|v| v.try_into().unwrap())
 }
 
 /// Some places more than a call needs, by the size of what it is given, so that both are tried.
