@@ -1,8 +1,9 @@
 //! damage SEED COUNT [exact] [ENTRY..]: COUNT damaged byte inputs to each of the port's entry points that take bytes (file, load,
-//! lines, checksum, stored, parse, rfc3339, position), or to those named. The bytes and every output are lent between guards; after each call the guards, the bytes
+//! lines, checksum, stored, parse, rfc3339, position, elements), or to those named. The bytes and every output are lent between guards; after each call the guards, the bytes
 //! and the places that the call had to leave alone are looked at, and its refusal is one that it may give. With `exact` each of them
 //! is lent from an allocation of just its size, for a run under valgrind, which then sees a read past an end too. Prints, for each
 //! entry point, the inputs by refusal; stops at the first fault.
+use common::cases;
 use common::files;
 use common::numbers::Random;
 use common::simulator;
@@ -13,7 +14,35 @@ use std::collections::BTreeMap;
 #[path = "../port.rs"]
 mod port;
 
-const ENTRIES: [&str; 8] = ["file", "load", "lines", "checksum", "stored", "parse", "rfc3339", "position"];
+const ENTRIES: [&str; 9] = ["file", "load", "lines", "checksum", "stored", "parse", "rfc3339", "position", "elements"];
+
+/// The two element lines of an orbit, as the patched original writes them; in every fourth an angle prints as 360.0000.
+fn written(r: &mut Random) -> [Vec<u8>; 2] {
+    loop {
+        let mut e = cases::printed(r);
+        if r.one_in(4) {
+            e[2 + r.below(2) as usize] = r.pick(&[-1e-20, 6.2831852]);
+        }
+        if let Ok(text) = patched::judge::lines(b"", e, cases::inside(r)) {
+            let lines: Vec<Vec<u8>> = text.split(|&b| b == b'\n').map(|line| line.to_vec()).collect();
+            return [lines[1].clone(), lines[2].clone()];
+        }
+    }
+}
+
+fn shown(pair: &[Vec<u8>; 2]) -> String {
+    pair.each_ref().map(|line| line.escape_ascii().to_string()).join("\n")
+}
+
+/// Written, published and other element lines, of a pool of pairs.
+fn element_lines(k: u64) -> [Vec<u8>; 2] {
+    let r = &mut Random::new(k);
+    match k % 4 {
+        0 | 1 => written(r),
+        2 => files::published(r),
+        _ => files::elements(r),
+    }
+}
 
 struct Run {
     exact: bool,
@@ -193,6 +222,47 @@ impl Run {
         assert!([0, 1, 2, 3, 13].contains(&refusal), "refusal {refusal} of {bytes:?}");
         refusal
     }
+
+    /// A line of the pool, which has first and second lines in turn: half of them as they are, the others with some bytes changed or exchanged or an end cut off;
+    /// of these every second has its right checksum. Now and then anything.
+    fn element_line(&mut self, second: usize) -> Vec<u8> {
+        if self.r.one_in(16) {
+            return self.input();
+        }
+        let r = &mut self.r;
+        let mut b = self.pool[2 * r.below(self.pool.len() as u64 / 2) as usize + second].clone();
+        if r.one_in(2) || b.is_empty() {
+            return b;
+        }
+        for _ in 0..1 + r.below(3) {
+            let (at, other) = (r.below(b.len() as u64) as usize, r.below(b.len() as u64) as usize);
+            match r.below(8) {
+                0 => b[at] = r.word() as u8,
+                1 => b[at] ^= 1 << r.below(8),
+                2 | 3 => b[at] = r.pick(b" 0123456789+-.A"),
+                4 if r.one_in(4) => b.truncate(at + 1),
+                _ => b.swap(at, other),
+            }
+        }
+        if r.one_in(2) { files::summed(b) } else { b }
+    }
+
+    /// A refusal leaves the six places alone; numbers that are taken are within their printed digits, the mean anomaly below a turn.
+    fn read_elements(&self, pair: &[Vec<u8>; 2]) -> Result<Vec<u64>, u32> {
+        let mut out = self.lend(6, port::WORD);
+        let places = out.start() as *mut [u64; 6];
+        let refusal = self.with(&pair[0], |a, n| self.with(&pair[1], |b, m| unsafe { port::wisvalom_read_element_lines(a, n, b, m, places) }));
+        let got = out.written(if refusal == 0 { 6 } else { 0 });
+        let ends = [100, 100_000_000_000, 10_000_000, 10_000_000, 3_600_000, 10_000_000_000];
+        assert!(got.iter().zip(ends).all(|(&v, end)| v < end), "{got:?} of {}", shown(pair));
+        assert!([0, 14, 15, 16].contains(&refusal), "refusal {refusal} of {}", shown(pair));
+        if refusal == 0 { Ok(got) } else { Err(refusal) }
+    }
+
+    fn elements(&mut self) -> u32 {
+        let pair = [self.element_line(0), self.element_line(1)];
+        self.read_elements(&pair).err().unwrap_or(0)
+    }
 }
 
 fn main() {
@@ -214,6 +284,7 @@ fn main() {
                 "parse" => files::decimal(&mut Random::new(k)),
                 "rfc3339" => files::moment(&mut Random::new(k)),
                 "position" => files::position(&mut Random::new(k)),
+                "elements" => element_lines(k / 2)[k as usize % 2].clone(),
                 "load" | "stored" => files::stored(k, &simulator::realistic(k, 2 + k as usize % 4, 6 + k as usize % 40).set),
                 _ => files::file(seed.wrapping_mul(512).wrapping_add(k)),
             })
@@ -231,6 +302,7 @@ fn main() {
                 "parse" => run.parse(),
                 "rfc3339" => run.rfc3339(),
                 "position" => run.position(),
+                "elements" => run.elements(),
                 _ => panic!("no entry point {entry}"),
             };
             *refusals.entry(refusal).or_default() += 1;
