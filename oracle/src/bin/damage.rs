@@ -3,6 +3,8 @@
 //! and the places that the call had to leave alone are looked at, and its refusal is one that it may give. With `exact` each of them
 //! is lent from an allocation of just its size, for a run under valgrind, which then sees a read past an end too. Prints, for each
 //! entry point, the inputs by refusal; stops at the first fault.
+//! damage SEED COUNT [exact] digits: COUNT pairs of written element lines, which must read back to their digits, and each of their digits changed to each
+//! other one, which must be refused.
 use common::cases;
 use common::files;
 use common::numbers::Random;
@@ -32,6 +34,18 @@ fn written(r: &mut Random) -> [Vec<u8>; 2] {
 
 fn shown(pair: &[Vec<u8>; 2]) -> String {
     pair.each_ref().map(|line| line.escape_ascii().to_string()).join("\n")
+}
+
+/// What written lines have to give, by their words rather than their columns: perigee and eccentricity are zeros, and the revolution number and checksum are six
+/// digits behind the mean motion.
+fn printed(pair: &[Vec<u8>; 2]) -> [u64; 6] {
+    let words = |k: usize| std::str::from_utf8(&pair[k]).unwrap().split_whitespace().collect::<Vec<_>>();
+    let number = |text: &str| text.replace('.', "").parse::<u64>().unwrap();
+    let (line1, line2) = (words(0), words(1));
+    let (year, day) = line1[3].split_at(2);
+    let motion = &line2[7][..line2[7].len() - 6];
+    let anomaly = if line2[6] == "360.0000" { 0 } else { number(line2[6]) };
+    [number(year), number(day), number(line2[2]), number(line2[3]), anomaly, number(motion)]
 }
 
 /// Written, published and other element lines, of a pool of pairs.
@@ -263,6 +277,23 @@ impl Run {
         let pair = [self.element_line(0), self.element_line(1)];
         self.read_elements(&pair).err().unwrap_or(0)
     }
+
+    /// A written pair reads back to its digits, and with any digit changed to any other it is refused: by 14 in the first column, else by 15.
+    fn digits(&mut self, refusals: &mut BTreeMap<u32, u64>) -> u32 {
+        let pair = written(&mut self.r);
+        let got = self.read_elements(&pair);
+        assert!(got == Ok(printed(&pair).to_vec()), "{got:?} of {}", shown(&pair));
+        for (line, at) in (0..138).map(|k| (k / 69, k % 69)).filter(|&(line, at)| pair[line][at].is_ascii_digit()) {
+            for digit in (b'0'..=b'9').filter(|&d| d != pair[line][at]) {
+                let mut changed = pair.clone();
+                changed[line][at] = digit;
+                let (got, said) = (self.read_elements(&changed), if at == 0 { 14 } else { 15 });
+                assert!(got == Err(said), "{got:?}, not refusal {said}, of {}", shown(&changed));
+                *refusals.entry(said).or_default() += 1;
+            }
+        }
+        0
+    }
 }
 
 fn main() {
@@ -303,6 +334,7 @@ fn main() {
                 "rfc3339" => run.rfc3339(),
                 "position" => run.position(),
                 "elements" => run.elements(),
+                "digits" => run.digits(&mut refusals),
                 _ => panic!("no entry point {entry}"),
             };
             *refusals.entry(refusal).or_default() += 1;
