@@ -31,6 +31,7 @@ fn agrees(line: &[u8]) -> bool {
         || replay_numbers::agrees(line)
         || replay_sums::agrees(line)
         || replay_geodetic::agrees(line)
+        || replay_elements::agrees(line)
         || replay_fits::agrees(line)
 }
 
