@@ -1,5 +1,5 @@
-/* The functions of libexports.a (rt staticlib exports) and libexports_geodetic.a (rt staticlib exports_geodetic), for C99, C++11 and other languages
- * that call C. Those of the second say so; all others are in the first.
+/* The functions of libexports.a (rt staticlib exports), libexports_geodetic.a and libexports_element_lines.a (the same with their names), for C99, C++11
+ * and other languages that call C. Those of the last two say so; all others are in the first.
  *
  * The quick way is the last part of this file: wisvalom_fit, with one struct for what goes in and one for what comes out. The flat functions
  * before it are what the library has.
@@ -51,6 +51,9 @@
 #define WISVALOM_UNPRINTABLE 11   /* the orbit (finite, 6,500 to 20,000 km) or the name (24 bytes, each 32 to 126) does not fit the lines */
 #define WISVALOM_LIMITS 12        /* a base outside 2 to 7, digits above 16, a history above 64 numbers or a matrix above 68 rows */
 #define WISVALOM_POSITION_RANGE 13 /* a latitude, longitude or height is NaN or out of range, or a line is not three such numbers */
+#define WISVALOM_LINE_COLUMNS 14  /* an element line has not 69 bytes, or a byte that may not stand in its column */
+#define WISVALOM_LINE_CHECKSUM 15 /* an element line's column 69 is not its checksum */
+#define WISVALOM_ECCENTRIC 16     /* the eccentricity of element lines is not zero */
 #define WISVALOM_SHORT_MEMORY 21  /* a lent output or scratch is too short */
 #define WISVALOM_SMALL_PIVOT 22   /* the solver's chosen pivot is below 1e-12 in size */
 #define WISVALOM_FAR_MOMENT 23    /* a moment of a prediction is over 8,000,000,000,000 s from 1970 */
@@ -204,6 +207,17 @@ uint32_t wisvalom_fit_orbit_doppler(const uint32_t *counts, size_t n_counts, con
 uint32_t wisvalom_tle_checksum(const uint8_t *line, size_t n_line);
 uint32_t wisvalom_format_tle_catalog(const uint8_t *name, size_t n_name, double a, double i, double raan0, double u0,
                                      int64_t epoch, uint32_t epoch_nanos, uint8_t *out, size_t out_room, size_t *length);
+
+/* In libexports_element_lines.a: what two element lines say, ours or another station's, each of 69 bytes without a line end (in the text above
+ * they begin at n_name + 1 and n_name + 71). As whole numbers, each in units of its last printed place:
+ *   out[0], out[1]   the epoch: its year without the century (57 to 99 are the 1900s), and 10^-8 days of the year, January 1 being day 1
+ *   out[2], out[3]   inclination and node: 10^-4 degrees
+ *   out[4]           mean anomaly and argument of perigee together, below a turn: 10^-4 degrees, 0 to 3,599,999
+ *   out[5]           mean motion: 10^-8 revolutions a day
+ * Refuses, each tried on both lines before the next: 14, another length or a byte that may not stand in its column; 15, a checksum; 16, an
+ * eccentricity that is not 0000000: lines of most satellites are refused. Days, degrees and catalogue numbers are not looked at further: 999
+ * degrees are accepted. */
+uint32_t wisvalom_read_element_lines(const uint8_t *line1, size_t n_line1, const uint8_t *line2, size_t n_line2, uint64_t out[6]);
 
 /* Fit and lines in one call, on a pass set in arrays and on a stored one: fits as wisvalom_fit_orbit_doppler does, with the same memory,
  * and writes the lines of an accepted orbit under this name to the first *length bytes of text, which has wisvalom_text_size(n_name)

@@ -1,5 +1,5 @@
-/* Empty arrays as null pointers, as include/wisvalom.h allows them, and its test for memory that overlaps. Ends with 0 and a line, or with 1
- * and the first call that answers otherwise. */
+/* Empty arrays as null pointers, as include/wisvalom.h allows them, lines that are written and read back, and the header's test for memory
+ * that overlaps. Ends with 0 and a line, or with 1 and the first call that answers otherwise. */
 #include <stdio.h>
 #include <stdlib.h>
 
@@ -21,7 +21,7 @@ int main(void)
     struct wisvalom_passes none = {NULL, NULL, NULL, NULL, 0, 0};
     struct wisvalom_receiver mast = {0, 0, 6378137};
     size_t numbers[4] = {9, 9, 9, 9}, passes = 9, samples = 9, length = 9;
-    uint64_t seconds = 9, nanos = 9;
+    uint64_t seconds = 9, nanos = 9, elements[6];
     uint32_t taken = 9;
     double out[4], centre;
     uint8_t bytes[4], text[200];
@@ -34,6 +34,7 @@ int main(void)
     EXPECT(wisvalom_parse_from_rfc3339(NULL, 0, &seconds, &nanos), false);
     EXPECT(wisvalom_put_fixed(1, 1, ' ', NULL, 0, 0, 4), false);
     EXPECT(wisvalom_tle_checksum(NULL, 0), 0);
+    EXPECT(wisvalom_read_element_lines(NULL, 0, NULL, 0, elements), WISVALOM_LINE_COLUMNS);
     EXPECT(wisvalom_compute_fractional_difference_history(NULL, 0, NULL, 0), 0);
     EXPECT(wisvalom_solve_linear_system(NULL, 0, NULL, 0, 0, NULL, 0, NULL, 0), 0);
     EXPECT(wisvalom_get_pred_pca_times(7e6, 1, 0, 0, 0, 0, 0, 0, 0, NULL, 0, NULL, 0, NULL, 0, NULL, 0, NULL, 0), 0);
@@ -53,6 +54,9 @@ int main(void)
            WISVALOM_SIZES);
     EXPECT(wisvalom_format_tle_catalog(NULL, 0, 7e6, 1, 0, 0, 0, 0, text, sizeof text, &length), 0);
     EXPECT(length, wisvalom_text_size(0));
+    EXPECT(wisvalom_read_element_lines(text + 1, 69, text + 71, 69, elements), 0);
+    EXPECT(elements[0], 70);
+    EXPECT(elements[2], 572958);
     EXPECT(wisvalom_format_tle_catalog(NULL, 0, 7e6, 1, 0, 0, 0, 0, NULL, 0, &length), WISVALOM_SHORT_MEMORY);
     EXPECT(wisvalom_apart(text, 4, text + 4, 4), true);
     EXPECT(wisvalom_apart(text, 5, text + 4, 4), false);
