@@ -200,7 +200,8 @@ pub fn position(r: &mut Random) -> Vec<u8> {
     out
 }
 
-/// Published element lines: of satellites whose eccentricities are not zero, with blanks for leading zeros, a plus, and two without a designator.
+/// Element lines as they are published: of satellites whose eccentricities are not zero, with blanks for leading zeros, a plus, and two without a designator. Their
+/// checksums hold.
 const PUBLISHED: [[&[u8]; 2]; 8] = [
     [
         b"1 25544U 98067A   08264.51782528 -.00002182  00000-0 -11606-4 0  2927",
