@@ -94,5 +94,6 @@ pub record Demand (x : Arguments) (name : List ℕ) (w w′ : Outputs) (r : Fit)
   -- the name's line and 'the element lines', each with a line feed
   pub lines : take (length name + 141) text ≡ catalogOf name (r .orbit)
   -- they 'have right columns and checksums and carry the returned orbit, as document 01's f64 degrees, revolutions a day and day
-  -- of year, to half a unit of each last printed place, beside the last two digits of its epoch's year'
+  -- of year, to half a unit of each last printed place, beside the last two digits of its epoch's year'; by document 02 [3] node and mean anomaly
+  -- around the circle, below 360 degrees
   pub printed : Printed (r .orbit) (line1In name text) (line2In name text)

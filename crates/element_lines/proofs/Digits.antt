@@ -11,6 +11,7 @@ use lib.Seq.{drop-length}
 use Rattle.laws.proofs.Lists.{here}
 use Rattle.decimal.specs.Read.{isDigit}
 use Rattle.tle.specs.Printed.{readDigits, numberIn}
+use Rattle.tle.proofs.Columns.{columns-are}
 use Rattle.element_lines.specs.Parts.{withByte}
 
 -- ---- a number read byte by byte
@@ -36,4 +37,4 @@ one-more r n i h k =
 -- ---- the number in columns a to b, as a part of the line
 pub part : (a b : ℕ) (l : List ℕ) → 0 < a → readDigits 0 (take (b - (a - 1)) (drop (a - 1) l)) ≡ numberIn a b l
 unfolding numberIn
-part a b l h = let e : b - (a - 1) ≡ b + 1 - a = omega arith in rw e
+part a b l h = ap (readDigits 0) (columns-are a b l h)

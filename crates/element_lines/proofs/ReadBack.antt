@@ -1,23 +1,21 @@
 -- The lines that `format_tle_catalog` writes are read back to their printed digits, and with one digit changed they are refused. Assumes nothing.
-use mathlib.Core.Path.{_≡_, refl}
-use mathlib.Core.Bool.{Bool, true, false, cond}
+use mathlib.Core.Path.{_≡_}
+use mathlib.Core.Bool.{true}
 use mathlib.Core.List.{List}
-use Prim.Native.Nat.{ℕ, _+_, _%_, _≤_}
+use Prim.Native.Nat.{ℕ, _+_, _<_}
 use native.Mathlib.Nat.{mod-eq-of-lt}
 use native.Mathlib.Omega.{arith}
-use lib.Dec.{eqb}
 use lib.Ieee.Bits.{is-true}
-use borrow.Author.Tests.{eq-eqb, eqb-true, eqb-false}
-use Rattle.decimal.specs.Fixed.{nearestUnits}
+use borrow.Author.Tests.{eq-eqb}
 use Rattle.tle.specs.Answer.{Formats}
-use Rattle.tle.specs.Elements.{printedDegrees, lineEpoch}
+use Rattle.tle.specs.Elements.{wholeTurn, lineEpoch}
 use Rattle.tle.specs.Lines.{line1, line2}
 use Rattle.tle.specs.Printed.{matchesLine, numberIn, Checked, Printed}
 use Rattle.tle.specs.declared.Catalog.{Catalog}
 use Rattle.tle.proofs.Printed.{Digits, digits, printed, format-lines, format-printed}
 use Rattle.solution.specs.declared.SolvedOrbit.{SolvedOrbit}
 use Rattle.element_lines.specs.Columns.{readable1, readable2}
-use Rattle.element_lines.specs.Reading.{wholeTurn, summed, circular, elementsRefusal, anomalyFromNode, elementsIn, refusedElements, readElementLinesOf}
+use Rattle.element_lines.specs.Reading.{summed, circular, elementsRefusal, anomalyFromNode, elementsIn, refusedElements, readElementLinesOf}
 use Rattle.element_lines.specs.Written.{firstIn, secondIn, printedElements, DigitChanged, changedRefusal}
 use Rattle.element_lines.proofs.Covered.{columns-covered-1, columns-covered-2}
 use Rattle.element_lines.proofs.OneDigit.{one-digit-1, one-digit-2}
@@ -38,22 +36,18 @@ printed-taken o l1 l2 p =
     let m2 : matchesLine readable2 l2 ≡ true = is-true (matchesLine readable2 l2) (columns-covered-2 l2 (p .columns-2)) in
     simp (m1, m2, sum-right l1 (p .checksum-1), sum-right l2 (p .checksum-2), no-eccentricity l2 (p .eccentricity))
 
--- ---- a mean anomaly that is printed 360.0000 reads as 0
-below-turn : (n : ℕ) (b : Bool) → eqb n wholeTurn ≡ b → n ≤ wholeTurn → n % wholeTurn ≡ cond b 0 n
-below-turn n true e h = let f = eqb-true n wholeTurn e in rw f
-below-turn n false e h = mod-eq-of-lt (let f = eqb-false n wholeTurn e in omega arith)
-
-anomaly-back : (l2 : List ℕ) (u : ℕ) → numberIn 44 51 l2 ≡ u → numberIn 35 42 l2 ≡ 0 → u ≤ wholeTurn → anomalyFromNode l2 ≡ cond (eqb u wholeTurn) 0 u
+-- ---- with no perigee, a mean anomaly below a turn is its own sum
+anomaly-back : (l2 : List ℕ) → numberIn 35 42 l2 ≡ 0 → numberIn 44 51 l2 < wholeTurn → anomalyFromNode l2 ≡ numberIn 44 51 l2
 unfolding anomalyFromNode
-anomaly-back l2 u e z h =
-    let f : u + 0 ≡ u = omega arith in
-    rw (e, z, f) (below-turn u (eqb u wholeTurn) refl h)
+anomaly-back l2 z h =
+    let f : numberIn 44 51 l2 + 0 ≡ numberIn 44 51 l2 = omega arith in
+    rw (z, f) (mod-eq-of-lt h)
 
 -- ---- each number is the printed one
 digits-back : (o : SolvedOrbit) (l1 l2 : List ℕ) → Printed o l1 l2 → Digits o l1 l2 → elementsIn l1 l2 ≡ printedElements o
 unfolding elementsIn printedElements
 digits-back o l1 l2 p d =
-    simp (p .year, d .day-of-year, d .inclination, d .node, d .mean-motion, anomaly-back l2 (nearestUnits 4 (printedDegrees (o .u0))) (d .mean-anomaly) (p .perigee) (d .anomaly-most))
+    simp (p .year, d .day-of-year, d .inclination, d .node, d .mean-motion, anomaly-back l2 (p .perigee) (p .mean-anomaly .below-turn), d .mean-anomaly)
 
 reads-back : (o : SolvedOrbit) (l1 l2 : List ℕ) → Printed o l1 l2 → Digits o l1 l2 → readElementLinesOf l1 l2 ≡ printedElements o
 unfolding readElementLinesOf

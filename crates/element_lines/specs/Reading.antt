@@ -6,6 +6,7 @@ use lib.Dec.{eqb}
 use lib.ListN.{take}
 use Rattle.refusal.specs.Numbers.{line-columns, line-checksum, eccentric}
 use Rattle.refusal.specs.Order.{first, _if_, unless}
+use Rattle.tle.specs.Elements.{wholeTurn}
 use Rattle.tle.specs.Lines.{checksumOf}
 use Rattle.tle.specs.Printed.{matchesLine, numberIn}
 use Rattle.element_lines.specs.Columns.{readable1, readable2}
@@ -24,10 +25,6 @@ elementsRefusal l1 l2 = first (
     (line-columns if not (matchesLine readable1 l1 && matchesLine readable2 l2))
     ∷ (line-checksum if not (summed l1 && summed l2)) ∷ (eccentric if not (circular l2))
     ∷ [])
-
--- a turn in units of 10^-4 degrees
-abbrev pub wholeTurn : ℕ
-wholeTurn = 3600000
 
 -- a circular orbit has no perigee to count from: both angles together count from the node
 unfoldable pub anomalyFromNode : List ℕ → ℕ

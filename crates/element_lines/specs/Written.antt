@@ -8,9 +8,8 @@ use lib.ListN.{length, getD, set, take, drop}
 use Rattle.decimal.specs.Fixed.{nearestUnits}
 use Rattle.decimal.specs.Read.{isDigit}
 use Rattle.refusal.specs.Numbers.{line-columns, line-checksum}
-use Rattle.tle.specs.Elements.{printedDegrees, meanMotionOf, lineEpoch}
+use Rattle.tle.specs.Elements.{printedDegrees, withinTurn, meanMotionOf, lineEpoch}
 use Rattle.solution.specs.declared.SolvedOrbit.{SolvedOrbit}
-use Rattle.element_lines.specs.Reading.{wholeTurn}
 use Rattle.element_lines.specs.declared.Elements.{Elements}
 
 -- the element lines in a text of name, line feed, line 1, line feed, line 2, line feed
@@ -20,18 +19,17 @@ firstIn name text = take 69 (drop (length name + 1) text)
 abbrev pub secondIn : List ℕ → List ℕ → List ℕ
 secondIn name text = take 69 (drop (length name + 71) text)
 
--- The digits that are printed of an orbit: each number in units of its last printed place. A mean anomaly printed 360.0000 reads as 0.
+-- the digits that are printed of an orbit: each number in units of its last printed place
 unfoldable pub printedElements : SolvedOrbit → Elements
 printedElements o =
     let e = lineEpoch (o .epoch) in
-    let u = nearestUnits 4 (printedDegrees (o .u0)) in
     record {
       refusal = 0;
       year = e .year % 100;
       day = nearestUnits 8 (e .day);
       inclination = nearestUnits 4 (printedDegrees (o .i));
-      node = nearestUnits 4 (printedDegrees (o .raan0));
-      «mean_anomaly» = cond (eqb u wholeTurn) 0 u;
+      node = nearestUnits 4 (withinTurn (printedDegrees (o .raan0)));
+      «mean_anomaly» = nearestUnits 4 (withinTurn (printedDegrees (o .u0)));
       «mean_motion» = nearestUnits 8 (meanMotionOf (o .a));
     }
 

@@ -2,7 +2,6 @@
 // `oracle/store` makes. A line `not ..` has an answer that was changed and must differ, so that a comparison which finds everything the
 // same is found out; the last line, `end ..`, says how many lines stand before it, so that a list which is cut is found out.
 mod files;
-mod lines;
 mod rooms;
 mod unpacked;
 
@@ -26,8 +25,8 @@ struct Tally {
 }
 
 fn agrees(line: &[u8]) -> bool {
-    lines::agrees(line)
-        || files::agrees(line)
+    files::agrees(line)
+        || replay_lines::agrees(line)
         || replay_numbers::agrees(line)
         || replay_sums::agrees(line)
         || replay_geodetic::agrees(line)

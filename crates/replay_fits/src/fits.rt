@@ -53,17 +53,6 @@ fn same_fit(fields: &[u8], f: Fit) -> bool {
     answer_lines::field(fields, 7) == f.trials as u64
 }
 
-// Whether the fields are the lines' refusal, or 0 and their bytes.
-fn same_lines(fields: &[u8], lines: Catalog, text: &[u8]) -> bool {
-    if !answer_lines::refused(fields, lines.refusal) {
-        return false;
-    }
-    if lines.refusal != 0 {
-        return true;
-    }
-    answer_lines::same_bytes(answer_lines::from(fields, 1), lines.length, text)
-}
-
 // Whether the fields after the fit's are: log, four lists of biases, lines.
 fn same_outputs(
     fields: &[u8],
@@ -94,7 +83,7 @@ fn same_outputs(
     if !same_list(d, df2s) {
         return false;
     }
-    same_lines(answer_lines::after_list(d), lines, text)
+    replay_lines::agreement::same_lines(answer_lines::after_list(d), lines, text)
 }
 
 // A fit of the stored bytes; the fields after them are: centres, receiver, initial a and i, name.

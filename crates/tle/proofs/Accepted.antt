@@ -30,6 +30,7 @@ epoch-up secs nanos h =
 -- an accepted orbit, test by test
 pub record Sound (o : SolvedOrbit) : Type 0 where
   pub radius : T (radiusFits (o .a))
+  pub i-inside : T (inclinationFits (o .i))
   pub i-fits : T (angleFits (o .i))
   pub raan0-fits : T (angleFits (o .raan0))
   pub u0-fits : T (angleFits (o .u0))
@@ -47,7 +48,8 @@ sound o t =
     let u = angleFits (o .u0) in
     let p = and-r a (i && (n && u)) t in
     let q = and-r i (n && u) p in
-    record { radius = and-l a (i && (n && u)) t; i-fits = inclination-angle (o .i) (and-l i (n && u) p); raan0-fits = and-l n u q; u0-fits = and-r n u q }
+    let r = and-l i (n && u) p in
+    record { radius = and-l a (i && (n && u)) t; i-inside = r; i-fits = inclination-angle (o .i) r; raan0-fits = and-l n u q; u0-fits = and-r n u q }
 
 pub angle-up : (x : Float) → T (angleFits x) → UpTo 360 (printedDegrees x)
 unfolding angleFits

@@ -19,7 +19,7 @@ use Rattle.moment.specs.Calendar.{leap, monthLength, monthsLength, dateOf, ordi
 use Rattle.moment.specs.declared.Moment.{Moment}
 use Rattle.moment.specs.declared.calendar.Date.{Date}
 use Rattle.moment.proofs.Days.{from-march, from-january}
-use Rattle.tle.specs.Elements.{fullCircle, printedDegrees, secondsPerDay, meanMotionOf, secondsPerHour, secondsPerMinute, nanosPerSecond, epochFraction, epochAt, lineEpoch}
+use Rattle.tle.specs.Elements.{fullCircle, printedDegrees, withinTurn, secondsPerDay, meanMotionOf, secondsPerHour, secondsPerMinute, nanosPerSecond, epochFraction, epochAt, lineEpoch}
 use Rattle.solution.specs.Range.{leastRadius, mostRadius}
 use Rattle.tle.specs.Answer.{angleFits, radiusFits, inclinationFits, orbitFits, visible, nameFits, linesRefusal}
 use Rattle.tle.specs.Example.{epoch, exampleOrbit, first-line, second-line}
@@ -52,7 +52,7 @@ pub example-1 : line1 (lineEpoch epoch) ≡ first-line
 example-1 = ap line1 epoch-is ∙ example-day
 
 pub example-2 : line2 exampleOrbit ≡ second-line
-unfolding line2 closed body2 fixedText cellAt checksumOf weightSum printedDegrees degreesOf degreesPerRadian fullCircle remEuclidOf meanMotionOf secondsPerDay full sqrtOf add mul div rem lt round ofBits
+unfolding line2 closed body2 fixedText cellAt checksumOf weightSum withinTurn printedDegrees degreesOf degreesPerRadian fullCircle remEuclidOf meanMotionOf secondsPerDay full sqrtOf add mul div rem lt round ofBits
 example-2 = refl
 
 -- ---- the first and the last moments of years: 001.00000000 in 1957, 366.00000000 in 2026 and 367.00000000 in 2056
@@ -80,17 +80,9 @@ last-moment : day-text (lineEpoch (record { seconds = pos 2745532799; nanos = 99
 unfolding fixedText cellAt secondsOf epochFraction ordinalOf leap monthsLength monthLength secondsPerHour secondsPerMinute nanosPerSecond secondsPerDay add mul div round ofInt ofBits
 last-moment = ap (λ (e : Epoch). day-text (e .day)) (epoch-on (record { seconds = pos 2745532799; nanos = 999999999 }) (record { year = 2056; month = 12; day = 31 }) december-31-2056)
 
--- ---- angles: −0.0 rad prints 0.0000, −1e-20 rad 360.0000, π rad 180.0000; of 0.03125 and 0.09375 degrees the even one
+-- ---- angles: π rad prints 180.0000, of 0.03125 and 0.09375 degrees the even one
 abbrev angle-text : Float → List ℕ
 angle-text v = fixedText (code " ") 4 (nearestUnits 4 v) 8
-
-minus-zero : angle-text (printedDegrees (bits 0x8000000000000000)) ≡ bytes "  0.0000"
-unfolding fixedText cellAt printedDegrees degreesOf degreesPerRadian fullCircle remEuclidOf add mul rem lt round ofBits
-minus-zero = refl
-
-just-below : angle-text (printedDegrees (bits 0xbbc79ca10c924223)) ≡ bytes "360.0000"
-unfolding fixedText cellAt printedDegrees degreesOf degreesPerRadian fullCircle remEuclidOf add mul rem lt round ofBits
-just-below = refl
 
 half-turn : angle-text (printedDegrees (bits 0x400921fb54442d18)) ≡ bytes "180.0000"
 unfolding fixedText cellAt printedDegrees degreesOf degreesPerRadian fullCircle remEuclidOf add mul rem lt round ofBits
@@ -103,6 +95,24 @@ tie-down = refl
 tie-up : angle-text (bits 0x3fb8000000000000) ≡ bytes "  0.0938"
 unfolding fixedText cellAt round ofBits
 tie-up = refl
+
+-- ---- about a turn: −0.0 rad prints 0.0000, the f64 nearest to 359.99995 degrees, which is above it, 0.0000, and the one before it 359.9999
+minus-zero : angle-text (withinTurn (printedDegrees (bits 0x8000000000000000))) ≡ bytes "  0.0000"
+unfolding fixedText cellAt withinTurn printedDegrees degreesOf degreesPerRadian fullCircle remEuclidOf add mul rem lt round ofBits
+minus-zero = refl
+
+just-turned : angle-text (withinTurn (bits 0x40767fffcb923a2a)) ≡ bytes "  0.0000"
+unfolding fixedText cellAt withinTurn round ofBits
+just-turned = refl
+
+just-below : angle-text (withinTurn (bits 0x40767fffcb923a29)) ≡ bytes "359.9999"
+unfolding fixedText cellAt withinTurn round ofBits
+just-below = refl
+
+-- a node of −1e-20 rad and a mean anomaly of 6.2831852 rad both printed 360.0000: line 2 is now that of two zeros
+both-turned : line2 (record { a = exampleOrbit .a; i = exampleOrbit .i; raan0 = bits 0xbbc79ca10c924223; u0 = bits 0x401921fb4d12d84a; epoch = epoch }) ≡ second-line
+unfolding line2 closed body2 fixedText cellAt checksumOf weightSum withinTurn printedDegrees degreesOf degreesPerRadian fullCircle remEuclidOf meanMotionOf secondsPerDay full sqrtOf add mul div rem lt round ofBits
+both-turned = refl
 
 -- ---- refusals: names of 0, 24 and 25 bytes, a byte 127, an output one byte short, the end of 2056 passed (before a bad name), a NaN, an infinite angle
 abbrev letters : ℕ → List ℕ

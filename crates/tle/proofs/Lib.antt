@@ -3,7 +3,10 @@ pub mod Texts
 pub mod Columns
 pub mod Values
 pub mod Ranges
+pub mod Inclination
+pub mod Turn
 pub mod Accepted
 pub mod Answers
 pub mod Printed
+pub mod AsBefore
 pub mod Examples

@@ -12,23 +12,25 @@ use lib.Seq.{take-at, drop-append-add}
 use lib.Ieee.{Float}
 use Rattle.decimal.specs.Fixed.{nearestUnits, digitAt, fixedText}
 use Rattle.decimal.specs.Read.{isDigit}
-use Rattle.decimal.proofs.Theorems.{half-unit, decimal-le}
+use Rattle.decimal.proofs.Theorems.{decimal-le}
 use Rattle.moment.specs.Range.{taken, givenOf}
 use Rattle.moment.specs.declared.Moment.{Moment}
 use Rattle.moment.specs.Time.{secondsOf}
 use Rattle.moment.proofs.Ranges.{at-is}
-use Rattle.tle.specs.Elements.{printedDegrees, meanMotionOf, lineEpoch}
+use Rattle.tle.specs.Elements.{printedDegrees, withinTurn, meanMotionOf, lineEpoch}
 use Rattle.tle.specs.Lines.{start1, rest1, start2, middle2, end2, body1, body2, checksumOf, closed, line1, line2, catalogOf}
 use Rattle.refusal.specs.Order as order
 use Rattle.refusal.specs.Order.{_if_}
 use Rattle.refusal.specs.Numbers.{moment-range, unprintable, short-memory}
 use Rattle.tle.specs.Answer.{orbitFits, nameFits, linesRefusal, Formats}
-use Rattle.tle.specs.Printed.{Class, only, digit, leading, later, isBlank, admits, matchesBehind, matchesLine, exactly, columns1, columns2, readDigits, numberIn, HalfUnit, Checked, Printed}
+use Rattle.tle.specs.Printed.{Class, only, digit, leading, later, isBlank, admits, matchesBehind, matchesLine, exactly, columns1, columns2, columnsOf, readDigits, numberIn, HalfUnit, Checked, Printed}
 use Rattle.solution.specs.declared.SolvedOrbit.{SolvedOrbit}
 use Rattle.tle.specs.declared.Catalog.{Catalog}
 use Rattle.tle.specs.declared.elements.Epoch.{Epoch}
 use Rattle.tle.proofs.Columns.{checksum-lt}
 use Rattle.tle.proofs.Ranges.{UpTo}
+use Rattle.tle.proofs.Inclination.{inclination-up}
+use Rattle.tle.proofs.Turn.{half, turn-up, around}
 use Rattle.tle.proofs.Accepted.{epoch-up, sound, angle-up, motion-up}
 use Rattle.tle.proofs.Answers.{line1-length, line2-length}
 use Rattle.tle.proofs.Values.{value-text, digit-value, is-digit, fieldClasses, Digital, field-matches, Right, right-cons, right-append, exact}
@@ -38,7 +40,7 @@ carries : (p pad w m : ℕ) (v : Float) (N : ℕ) → UpTo m v → (pad ≡ 32) 
 carries p pad w m v N u q h l e = e ∙ value-text pad p (nearestUnits p v) w q h (lt-of-le-of-lt (decimal-le p m v (u .size)) l)
 
 near : (p m : ℕ) (v : Float) (N : ℕ) → UpTo m v → N ≡ nearestUnits p v → HalfUnit p v N
-near p m v N u d = let f = half-unit p v in record { range = u .range; above = rw d (f .0); below = rw d (f .1) }
+near p m v N u d = rw d (half p v m u)
 
 none : (n : ℕ) → readDigits n [] ≡ n
 unfolding readDigits
@@ -160,75 +162,87 @@ first e h =
       day = carries 8 48 11 367 (e .day) _ h (inr refl) (lit≤ tt) (lit< tt) (line1-day e);
     }
 
-record Second (o : SolvedOrbit) (l : List ℕ) : Type 0 where
+record Second (i r u n : Float) (l : List ℕ) : Type 0 where
   columns : T (matchesLine columns2 l)
   sum : Checked l
-  inclination : numberIn 9 16 l ≡ nearestUnits 4 (printedDegrees (o .i))
-  node : numberIn 18 25 l ≡ nearestUnits 4 (printedDegrees (o .raan0))
+  inclination : numberIn 9 16 l ≡ nearestUnits 4 i
+  node : numberIn 18 25 l ≡ nearestUnits 4 r
   eccentricity : numberIn 27 33 l ≡ 0
   perigee : numberIn 35 42 l ≡ 0
-  anomaly : numberIn 44 51 l ≡ nearestUnits 4 (printedDegrees (o .u0))
-  motion : numberIn 53 63 l ≡ nearestUnits 8 (meanMotionOf (o .a))
+  anomaly : numberIn 44 51 l ≡ nearestUnits 4 u
+  motion : numberIn 53 63 l ≡ nearestUnits 8 n
   revolution : numberIn 64 68 l ≡ 0
 
-abbrev bodyOf : SolvedOrbit → List ℕ
-bodyOf o = body2 (printedDegrees (o .i)) (printedDegrees (o .raan0)) (printedDegrees (o .u0)) (meanMotionOf (o .a))
+-- of any four numbers
+module _ (i r u n : Float) where
+  abbrev line : List ℕ
+  line = closed (body2 i r u n)
 
-body2-sum : (o : SolvedOrbit) → take 68 (line2 o) ≡ bodyOf o
-unfolding line2 closed body2 fixedText
-body2-sum o = refl
+  body2-sum : take 68 line ≡ body2 i r u n
+  unfolding closed body2 fixedText
+  body2-sum = refl
 
-line2-sum : (o : SolvedOrbit) → numberIn 69 69 (line2 o) ≡ readDigits 0 ((checksumOf (bodyOf o) + 48) ∷ [])
-unfolding numberIn line2 closed body2 fixedText
-line2-sum o = refl
+  line2-sum : numberIn 69 69 line ≡ readDigits 0 ((checksumOf (body2 i r u n) + 48) ∷ [])
+  unfolding numberIn closed body2 fixedText
+  line2-sum = refl
 
-line2-i : (o : SolvedOrbit) → numberIn 9 16 (line2 o) ≡ readDigits 0 (fixedText 32 4 (nearestUnits 4 (printedDegrees (o .i))) 8)
-unfolding numberIn line2 closed body2 fixedText
-line2-i o = refl
+  inclination-at : columnsOf 9 16 line ≡ fixedText 32 4 (nearestUnits 4 i) 8
+  unfolding closed body2 fixedText
+  inclination-at = refl
 
-line2-raan : (o : SolvedOrbit) → numberIn 18 25 (line2 o) ≡ readDigits 0 (fixedText 32 4 (nearestUnits 4 (printedDegrees (o .raan0))) 8)
-unfolding numberIn line2 closed body2 fixedText
-line2-raan o = refl
+  pub node-at : columnsOf 18 25 line ≡ fixedText 32 4 (nearestUnits 4 r) 8
+  unfolding closed body2 fixedText
+  node-at = refl
 
-line2-u : (o : SolvedOrbit) → numberIn 44 51 (line2 o) ≡ readDigits 0 (fixedText 32 4 (nearestUnits 4 (printedDegrees (o .u0))) 8)
-unfolding numberIn line2 closed body2 fixedText
-line2-u o = refl
+  pub anomaly-at : columnsOf 44 51 line ≡ fixedText 32 4 (nearestUnits 4 u) 8
+  unfolding closed body2 fixedText
+  anomaly-at = refl
 
-line2-n : (o : SolvedOrbit) → numberIn 53 63 (line2 o) ≡ readDigits 0 (fixedText 32 8 (nearestUnits 8 (meanMotionOf (o .a))) 11)
-unfolding numberIn line2 closed body2 fixedText
-line2-n o = refl
+  motion-at : columnsOf 53 63 line ≡ fixedText 32 8 (nearestUnits 8 n) 11
+  unfolding closed body2 fixedText
+  motion-at = refl
 
-zeros : (o : SolvedOrbit) → (numberIn 27 33 (line2 o) ≡ 0) × (numberIn 35 42 (line2 o) ≡ 0) × (numberIn 64 68 (line2 o) ≡ 0)
-unfolding numberIn line2 closed body2 fixedText readDigits
-zeros o = (refl, refl, refl)
+  zeros : (numberIn 27 33 line ≡ 0) × (numberIn 35 42 line ≡ 0) × (numberIn 64 68 line ≡ 0)
+  unfolding numberIn closed body2 fixedText readDigits
+  zeros = (refl, refl, refl)
 
-line2-is : (o : SolvedOrbit)
-    → start2 ++ (fixedText 32 4 (nearestUnits 4 (printedDegrees (o .i))) 8 ++ (32 ∷ (fixedText 32 4 (nearestUnits 4 (printedDegrees (o .raan0))) 8 ++ (middle2
-    ++ (fixedText 32 4 (nearestUnits 4 (printedDegrees (o .u0))) 8 ++ (32 ∷ (fixedText 32 8 (nearestUnits 8 (meanMotionOf (o .a))) 11 ++ (end2 ++ ((checksumOf (bodyOf o) + 48) ∷ []))))))))) ≡ line2 o
-unfolding line2 closed body2 fixedText
-line2-is o = refl
+  line2-is : start2 ++ (fixedText 32 4 (nearestUnits 4 i) 8 ++ (32 ∷ (fixedText 32 4 (nearestUnits 4 r) 8 ++ (middle2
+      ++ (fixedText 32 4 (nearestUnits 4 u) 8 ++ (32 ∷ (fixedText 32 8 (nearestUnits 8 n) 11 ++ (end2 ++ ((checksumOf (body2 i r u n) + 48) ∷ []))))))))) ≡ line
+  unfolding closed body2 fixedText
+  line2-is = refl
 
-line2-matches : (o : SolvedOrbit) → T (matchesLine columns2 (line2 o))
-line2-matches o =
-    subst (λ (l : List ℕ). T (matchesLine columns2 l)) (line2-is o)
-    (line2-columns (nearestUnits 4 (printedDegrees (o .i))) (nearestUnits 4 (printedDegrees (o .raan0))) (nearestUnits 4 (printedDegrees (o .u0))) (nearestUnits 8 (meanMotionOf (o .a))) (checksumOf (bodyOf o)) (checksum-lt (bodyOf o)))
+  line2-matches : T (matchesLine columns2 line)
+  line2-matches =
+      subst (λ (l : List ℕ). T (matchesLine columns2 l)) line2-is
+      (line2-columns (nearestUnits 4 i) (nearestUnits 4 r) (nearestUnits 4 u) (nearestUnits 8 n) (checksumOf (body2 i r u n)) (checksum-lt (body2 i r u n)))
 
-second : (o : SolvedOrbit) → T (orbitFits o) → Second o (line2 o)
-second o h =
-    let b = bodyOf o in
+  second : UpTo 360 i → UpTo 360 r → UpTo 360 u → UpTo 54 n → Second i r u n line
+  unfolding numberIn
+  second hi hr hu hn =
+      let b = body2 i r u n in
+      let z = zeros in
+      record {
+        columns = line2-matches;
+        sum = line2-sum ∙ checked (checksumOf b) (checksum-lt b) ∙ sym (ap checksumOf body2-sum);
+        inclination = carries 4 32 7 360 i _ hi (inl refl) (lit≤ tt) (lit< tt) (ap (readDigits 0) inclination-at);
+        node = carries 4 32 7 360 r _ hr (inl refl) (lit≤ tt) (lit< tt) (ap (readDigits 0) node-at);
+        eccentricity = z .0;
+        perigee = z .1;
+        anomaly = carries 4 32 7 360 u _ hu (inl refl) (lit≤ tt) (lit< tt) (ap (readDigits 0) anomaly-at);
+        motion = carries 8 32 10 54 n _ hn (inl refl) (lit≤ tt) (lit< tt) (ap (readDigits 0) motion-at);
+        revolution = z .2;
+      }
+
+-- of an orbit's
+second-of : (o : SolvedOrbit) → T (orbitFits o) → Second (printedDegrees (o .i)) (withinTurn (printedDegrees (o .raan0))) (withinTurn (printedDegrees (o .u0))) (meanMotionOf (o .a)) (line2 o)
+unfolding line2
+second-of o h =
     let s = sound o h in
-    let z = zeros o in
-    record {
-      columns = line2-matches o;
-      sum = line2-sum o ∙ checked (checksumOf b) (checksum-lt b) ∙ sym (ap checksumOf (body2-sum o));
-      inclination = carries 4 32 7 360 (printedDegrees (o .i)) _ (angle-up (o .i) (s .i-fits)) (inl refl) (lit≤ tt) (lit< tt) (line2-i o);
-      node = carries 4 32 7 360 (printedDegrees (o .raan0)) _ (angle-up (o .raan0) (s .raan0-fits)) (inl refl) (lit≤ tt) (lit< tt) (line2-raan o);
-      eccentricity = z .0;
-      perigee = z .1;
-      anomaly = carries 4 32 7 360 (printedDegrees (o .u0)) _ (angle-up (o .u0) (s .u0-fits)) (inl refl) (lit≤ tt) (lit< tt) (line2-u o);
-      motion = carries 8 32 10 54 (meanMotionOf (o .a)) _ (motion-up (o .a) (s .radius)) (inl refl) (lit≤ tt) (lit< tt) (line2-n o);
-      revolution = z .2;
-    }
+    second _ _ _ _ (angle-up (o .i) (s .i-fits)) (turn-up _ (angle-up (o .raan0) (s .raan0-fits))) (turn-up _ (angle-up (o .u0) (s .u0-fits))) (motion-up (o .a) (s .radius))
+
+-- ---- the inclination is printed up to 180.0000
+pub inclination-most : (o : SolvedOrbit) → T (orbitFits o) → numberIn 9 16 (line2 o) ≤ 1800000
+inclination-most o h = rw (second-of o h .inclination) (decimal-le 4 180 (printedDegrees (o .i)) (inclination-up (o .i) (sound o h .i-inside) .size))
 
 -- ---- the theorem
 epoch-fits : (t : Moment) → taken t ≡ true → UpTo 367 (lineEpoch t .day)
@@ -240,7 +254,7 @@ printed o h g =
     let e = epoch-fits (o .epoch) h in
     let s = sound o g in
     let a = first (lineEpoch (o .epoch)) e in
-    let b = second o g in
+    let b = second-of o g in
     record {
       length-1 = line1-length (lineEpoch (o .epoch));
       length-2 = line2-length o;
@@ -251,10 +265,10 @@ printed o h g =
       year = a .year;
       day-of-year = near 8 367 _ _ e (a .day);
       inclination = near 4 360 _ _ (angle-up (o .i) (s .i-fits)) (b .inclination);
-      node = near 4 360 _ _ (angle-up (o .raan0) (s .raan0-fits)) (b .node);
+      node = around _ _ (angle-up (o .raan0) (s .raan0-fits)) (b .node);
       eccentricity = b .eccentricity;
       perigee = b .perigee;
-      mean-anomaly = near 4 360 _ _ (angle-up (o .u0) (s .u0-fits)) (b .anomaly);
+      mean-anomaly = around _ _ (angle-up (o .u0) (s .u0-fits)) (b .anomaly);
       mean-motion = near 8 54 _ _ (motion-up (o .a) (s .radius)) (b .motion);
       revolution = b .revolution;
     }
@@ -263,21 +277,19 @@ printed o h g =
 pub record Digits (o : SolvedOrbit) (l1 l2 : List ℕ) : Type 0 where
   pub day-of-year : numberIn 21 32 l1 ≡ nearestUnits 8 (lineEpoch (o .epoch) .day)
   pub inclination : numberIn 9 16 l2 ≡ nearestUnits 4 (printedDegrees (o .i))
-  pub node : numberIn 18 25 l2 ≡ nearestUnits 4 (printedDegrees (o .raan0))
-  pub mean-anomaly : numberIn 44 51 l2 ≡ nearestUnits 4 (printedDegrees (o .u0))
-  pub anomaly-most : nearestUnits 4 (printedDegrees (o .u0)) ≤ 3600000
+  pub node : numberIn 18 25 l2 ≡ nearestUnits 4 (withinTurn (printedDegrees (o .raan0)))
+  pub mean-anomaly : numberIn 44 51 l2 ≡ nearestUnits 4 (withinTurn (printedDegrees (o .u0)))
   pub mean-motion : numberIn 53 63 l2 ≡ nearestUnits 8 (meanMotionOf (o .a))
 
 pub digits : (o : SolvedOrbit) → taken (o .epoch) ≡ true → T (orbitFits o) → Digits o (line1 (lineEpoch (o .epoch))) (line2 o)
 digits o h g =
     let a = first (lineEpoch (o .epoch)) (epoch-fits (o .epoch) h) in
-    let b = second o g in
+    let b = second-of o g in
     record {
       day-of-year = a .day;
       inclination = b .inclination;
       node = b .node;
       mean-anomaly = b .anomaly;
-      anomaly-most = decimal-le 4 360 (printedDegrees (o .u0)) (angle-up (o .u0) (sound o g .u0-fits) .size);
       mean-motion = b .motion;
     }
 

@@ -1,7 +1,7 @@
 -- What the lines print is in its columns' range: an angle is at most 360, the mean motion at most 54 and the day of the year at most 367. Assumes nothing.
 use mathlib.Core.Path.{_≡_, refl, subst}
 use mathlib.Core.Logic.{inl, inr}
-use mathlib.Core.Bool.{Bool, true, false, true≢false, not, cond}
+use mathlib.Core.Bool.{Bool, true, false, true≢false, not, _||_, cond}
 use Prim.Native.Nat.{ℕ, _+_, _-_, _*_, _/_, _%_, _^_, _≤_, _<_}
 use native.Mathlib.Nat.{lt-of-le-of-lt, mul-one, mul-pos, mul-lt-mul-of-pos-right}
 use native.Mathlib.Omega.{arith}
@@ -25,14 +25,19 @@ use Rattle.orbit.specs.Orbit.{mu-bits}
 use Rattle.solution.specs.Range.{leastRadius, leastRadius-bits, mostRadius, mostRadius-bits}
 use Rattle.tle.specs.Answer.{fromTo}
 use Rattle.laws.proofs.Numbers.{lt-or-ge}
-use Rattle.laws.proofs.Tests.{or-left}
+
+-- a number from one to another is neither below the one nor above the other
+pub neither : (x y : Bool) → T (not (x || y)) → (x ≡ false) × (y ≡ false)
+neither true y t = absurd t
+neither false true t = absurd t
+neither false false t = (refl, refl)
 
 -- ---- v is not below zero, and at most m
 pub record UpTo (m : ℕ) (v : Float) : Type 0 where
   pub range : T (within v)
   pub size : num v ≤ m * den v
 
-up-to : (m : ℕ) (v : Float) → m < 1000 → Within false m 1 v → UpTo m v
+pub up-to : (m : ℕ) (v : Float) → m < 1000 → Within false m 1 v → UpTo m v
 up-to m nan h w = absurd w
 up-to m (inf s) h w = absurd w
 up-to m (fin true k e) h w = absurd (true≢false (w .0))
@@ -54,8 +59,8 @@ circle-within : (s : Bool) (m : ℕ) (e : ℤ) → Within s 360 1 (fin s m e ⊛
 unfolding ofBits
 circle-within s m e = rem-within s m e 45 (pos 3) (lit< tt) (unfold round in (refl, refl))
 
-minus-zero : (k : ℕ) (e : ℤ) → k * up e * 1 ≤ 0 → UpTo 360 (fin true k e)
-minus-zero k e h =
+pub minus-zero : (m k : ℕ) (e : ℤ) → k * up e * 1 ≤ 0 → UpTo m (fin true k e)
+minus-zero m k e h =
     let D = down-pos e in
     record {
       range = between (fin true k e) (unfold lt in le-ltb 0 (k * up e * 1 + 0 * down e) (omega arith)) (unfold lt in lt-ltb 0 (k * up e * 1 + 1000 * down e) (omega arith));
@@ -79,7 +84,7 @@ rest s (inf t) w = absurd w
 rest s (fin false k e) w = unfold lt ofBits in simp (le-ltb (k * up e * 1) (0 * down e) (omega arith)) (up-to 360 (fin false k e) (lit< tt) (refl, w .1))
 rest s (fin true k e) w = unfold lt ofBits in elim (lt-or-ge 0 (k * up e * 1 + 0 * down e)) [
   | inl p ↦ simp (lt-ltb _ _ p) (turned k e (w .1))
-  | inr p ↦ simp (le-ltb _ _ p) (minus-zero k e (omega arith))
+  | inr p ↦ simp (le-ltb _ _ p) (minus-zero 360 k e (omega arith))
 ]
 
 pub degrees-up : (x : Float) → T (isFinite (degreesOf x)) → UpTo 360 (printedDegrees x)
@@ -125,11 +130,7 @@ orbit-least (fin true m e) f t =
     let D = down-pos e in
     absurd (simp (lt-ltb 0 (m * up e * 1 + 6500000 * down e) (omega arith)) at t)
 orbit-least (fin false m e) f t =
-    ltb-false (m * up e * 1) (6500000 * down e) (or-left (ltb (m * up e * 1) (6500000 * down e)) (ltb (20000000 * down e) (m * up e * 1)) (untrue _ t))
-  where
-    untrue : (x : Bool) → T (not x) → x ≡ false
-    untrue true t = absurd t
-    untrue false t = refl
+    ltb-false (m * up e * 1) (6500000 * down e) (neither (ltb (m * up e * 1) (6500000 * down e)) (ltb (20000000 * down e) (m * up e * 1)) t .0)
 
 -- a³ is at least 6500 km cubed, 3.986004418e14 / a³ at most 2 ^ -18, its root at most 2 ^ -8, × 86400 at most 337.5, and / 6.283185307179586 at most 54
 motion-up : (a : Float) → T (isFinite a) → T (fromTo (bits 0x4158cba800000000) (bits 0x417312d000000000) a) → UpTo 54 (sqrtOf (bits 0x42f6a8665bda5400 ⊘ (a ⊗ a ⊗ a)) ⊗ bits 0x40f5180000000000 ⊘ bits 0x401921fb54442d18)

@@ -1,12 +1,15 @@
--- The numbers that the lines print, as the Rust has them at printing: from the given orbit and epoch, one rounding per
+-- The numbers that the lines print, as the Rust has them at printing, but for 360 degrees: from the given orbit and epoch, one rounding per
 -- operation, in the Rust's order.
 use Prim.Native.Nat.{ℕ, _-_, _/_, _%_}
 use mathlib.Core.Path.{_≡_, refl}
+use mathlib.Core.Bool.{cond}
+use lib.Dec.{eqb}
 use lib.Ieee.{Float, ofBits, round}
 use Rattle.float.specs.Constant.{decimal}
 use Rattle.float.specs.Ops.{_⊕_, _⊗_, _⊘_, bits, remEuclidOf, degreesOf, ofNat}
 use Rattle.float.specs.Trig.{full}
 use Rattle.roots.specs.Root.{sqrtOf}
+use Rattle.decimal.specs.Fixed.{nearestUnits}
 use Rattle.moment.specs.Origin.{perDay, march1956}
 use Rattle.moment.specs.Time.{secondsOf}
 use Rattle.moment.specs.Calendar.{dateOf, ordinalOf}
@@ -26,6 +29,14 @@ fullCircle-bits = refl
 -- an angle of so many radians, in degrees from 0 to 360
 unfoldable pub printedDegrees : Float → Float
 printedDegrees x = remEuclidOf (degreesOf x) fullCircle
+
+-- a turn in units of 10^-4 degrees, an angle's last printed place
+abbrev pub wholeTurn : ℕ
+wholeTurn = 3600000
+
+-- what is printed of a node or mean anomaly of so many degrees, by document 02 [3]: 0 in place of what would print 360.0000
+unfoldable pub withinTurn : Float → Float
+withinTurn v = cond (eqb (nearestUnits 4 v) wholeTurn) (bits 0) v
 
 -- ---- revolutions a day
 

@@ -6,7 +6,7 @@ use lib.Dec.{leb, eqb}
 use lib.Ieee.{Float}
 use Rattle.text.specs.Text.{bytes, code}
 use Rattle.decimal.specs.Fixed.{nearestUnits, digitAt, fixedText}
-use Rattle.tle.specs.Elements.{printedDegrees, meanMotionOf, lineEpoch}
+use Rattle.tle.specs.Elements.{printedDegrees, withinTurn, meanMotionOf, lineEpoch}
 use Rattle.solution.specs.declared.SolvedOrbit.{SolvedOrbit}
 use Rattle.tle.specs.declared.elements.Epoch.{Epoch}
 
@@ -61,7 +61,7 @@ line1 e = closed (body1 (e .year) (e .day))
 
 -- the mean anomaly of a circular orbit, counted from the node, is its argument of latitude
 unfoldable pub line2 : SolvedOrbit → List ℕ
-line2 o = closed (body2 (printedDegrees (o .i)) (printedDegrees (o .raan0)) (printedDegrees (o .u0)) (meanMotionOf (o .a)))
+line2 o = closed (body2 (printedDegrees (o .i)) (withinTurn (printedDegrees (o .raan0))) (withinTurn (printedDegrees (o .u0))) (meanMotionOf (o .a)))
 
 -- name and lines, each with a line feed: 141 bytes and the name's
 unfoldable pub catalogOf : List ℕ → SolvedOrbit → List ℕ

@@ -1,8 +1,9 @@
 -- What the two lines carry: demand 3's claim about the lines, over their bytes alone. Columns are counted from 1, as the format does.
 use mathlib.Core.Path.{_≡_}
+use mathlib.Core.Logic.{_⊎_}
 use mathlib.Core.Bool.{Bool, true, false, _&&_, _||_, cond}
 use mathlib.Core.List.{List, [], _∷_, _++_}
-use Prim.Native.Nat.{ℕ, zero, suc, _+_, _-_, _*_, _%_, _^_, _≤_}
+use Prim.Native.Nat.{ℕ, zero, suc, _+_, _-_, _*_, _%_, _^_, _≤_, _<_}
 use lib.Dec.{T, leb, eqb}
 use lib.ListN.{length, take, drop}
 use lib.Ieee.{Float}
@@ -94,19 +95,28 @@ unfoldable pub columns2 : List Class
 columns2 =
     exactly start2 ++ angleColumns ++ blankColumn ++ angleColumns ++ exactly middle2 ++ angleColumns ++ blankColumn ++ motionColumns ++ exactly end2 ++ digitColumns 1
 
--- ---- the number in columns a to b, its point and blanks left out
+-- ---- columns a to b
+abbrev pub columnsOf : ℕ → ℕ → List ℕ → List ℕ
+columnsOf a b l = take (b + 1 - a) (drop (a - 1) l)
+
+-- the number in them, its point and blanks left out
 unfoldable pub readDigits : ℕ → List ℕ → ℕ
 readDigits n [] = n
 readDigits n (c ∷ l) = cond (isDigit c) (readDigits (n * 10 + (c - code "0")) l) (readDigits n l)
 
 unfoldable pub numberIn : ℕ → ℕ → List ℕ → ℕ
-numberIn a b l = readDigits 0 (take (b + 1 - a) (drop (a - 1) l))
+numberIn a b l = readDigits 0 (columnsOf a b l)
 
 -- N is within half a unit of v × 10 ^ p, for a v that is not below zero: v is num v / den v, and both sides are multiplied by 2 and den v
 pub record HalfUnit (p : ℕ) (v : Float) (N : ℕ) : Type 0 where
   pub range : T (within v)
   pub above : num v * 10 ^ p * 2 ≤ N * den v * 2 + den v
   pub below : N * den v * 2 ≤ num v * 10 ^ p * 2 + den v
+
+-- N is below 360 × 10 ^ p, a turn, and within half a unit of v × 10 ^ p around the circle
+pub record AroundHalf (p : ℕ) (v : Float) (N : ℕ) : Type 0 where
+  pub below-turn : N < 360 * 10 ^ p
+  pub near : HalfUnit p v N ⊎ HalfUnit p v (N + 360 * 10 ^ p)
 
 -- the checksum in column 69 is that of the 68 columns before it
 abbrev pub Checked : List ℕ → Type 0
@@ -122,9 +132,9 @@ pub record Printed (o : SolvedOrbit) (l1 l2 : List ℕ) : Type 0 where
   pub year : numberIn 19 20 l1 ≡ lineEpoch (o .epoch) .year % 100
   pub day-of-year : HalfUnit 8 (lineEpoch (o .epoch) .day) (numberIn 21 32 l1)
   pub inclination : HalfUnit 4 (printedDegrees (o .i)) (numberIn 9 16 l2)
-  pub node : HalfUnit 4 (printedDegrees (o .raan0)) (numberIn 18 25 l2)
+  pub node : AroundHalf 4 (printedDegrees (o .raan0)) (numberIn 18 25 l2)
   pub eccentricity : numberIn 27 33 l2 ≡ 0
   pub perigee : numberIn 35 42 l2 ≡ 0
-  pub mean-anomaly : HalfUnit 4 (printedDegrees (o .u0)) (numberIn 44 51 l2)
+  pub mean-anomaly : AroundHalf 4 (printedDegrees (o .u0)) (numberIn 44 51 l2)
   pub mean-motion : HalfUnit 8 (meanMotionOf (o .a)) (numberIn 53 63 l2)
   pub revolution : numberIn 64 68 l2 ≡ 0

@@ -1,9 +1,11 @@
-// What the lines print of an orbit, and which orbits and names they take. `epoch_of` serves `format_tle_catalog`, which has
-// tested the epoch.
+// What the lines print of an orbit, and which orbits and names they take. `within_turn` and `epoch_of` serve
+// `format_tle_catalog`, which has tested angles and epoch.
 ghost use mathlib.Core.Path.{_≡_};
+ghost use lib.Dec.{T};
+ghost use Rattle.decimal.specs.Fixed.{within};
 ghost use Rattle.float.specs.Trig.{isFinite};
 ghost use Rattle.moment.specs.Range.{Within};
-ghost use Rattle.tle.specs.Elements.{printedDegrees, meanMotionOf, epochFraction, epochAt};
+ghost use Rattle.tle.specs.Elements.{printedDegrees, withinTurn, meanMotionOf, epochFraction, epochAt};
 ghost use Rattle.tle.specs.Answer.{fromTo, angleFits, radiusFits, inclinationFits, orbitFits, visibleByte, nameFits};
 use moment::Instant;
 use solution::SolvedOrbit;
@@ -12,6 +14,17 @@ pub fn degrees(x: f64) -> f64
     ensures { λ r. ⌜ r ≡ printedDegrees x ⌝ }
 {
     float::rem_euclid(float::to_degrees(x), 360.0)
+}
+
+// 0 degrees in place of what would print 360.0000.
+pub fn within_turn(v: f64) -> f64
+    requires { ⌜ T (within v) ⌝ }
+    ensures { λ r. ⌜ r ≡ withinTurn v ⌝ }
+{
+    if decimal::fixed::scaled(v, 4, 10000) == 3600000 {
+        return 0.0;
+    }
+    v
 }
 
 // Revolutions a day.

@@ -69,8 +69,8 @@ fn second_line(orbit: SolvedOrbit) -> [u8; 69]
     ensures { λ r. ⌜ r ≡ line2 orbit ⌝ }
 {
     let i_deg = elements::degrees(orbit.i);
-    let raan_deg = elements::degrees(orbit.raan0);
-    let u0_deg = elements::degrees(orbit.u0);
+    let raan_deg = elements::within_turn(elements::degrees(orbit.raan0));
+    let u0_deg = elements::within_turn(elements::degrees(orbit.u0));
     lines::line_2(i_deg, raan_deg, u0_deg, elements::mean_motion(orbit.a))
 }
 
