@@ -214,6 +214,9 @@ pub fn name(r: &mut Random) -> Vec<u8> {
     (0..n).map(|_| if strange && r.one_in(4) { r.below(256) as u8 } else { 32 + r.below(95) as u8 }).collect()
 }
 
+/// Angles in radians. Their degrees are the f64 before the one nearest to 359.99995, that one, and the next: the first prints as 359.9999, the others as 360.0000.
+pub const EDGE: [f64; 3] = [6.2831844345149594, 6.28318443451496, 6.283184434514961];
+
 /// An orbit for the element lines; angles near what prints as 0 or 360, and near half units.
 pub fn printed(r: &mut Random) -> [f64; 4] {
     let angle = |r: &mut Random| match r.below(10) {
@@ -234,6 +237,23 @@ pub fn printed(r: &mut Random) -> [f64; 4] {
         _ => r.between(0.0, 3.1415926),
     };
     [a, i, angle(r), angle(r)]
+}
+
+/// An orbit for the element lines whose node and mean anomaly lie about a turn or half of one, each as it is or some f64 on or back. They are drawn apart, so that one,
+/// both or none prints as 360.0000. Inclinations of 0 and pi are among them; the radius is seldom refused.
+pub fn turning(r: &mut Random) -> [f64; 4] {
+    let about = [EDGE[0], EDGE[1], EDGE[2], -1e-20, 6.2831852, 0.0, -0.0, 6.283185307179586, -6.283185307179586, std::f64::consts::PI];
+    let angle = |r: &mut Random| {
+        let (v, on) = (r.pick(&about), r.one_in(2));
+        let steps = if r.one_in(2) { 0 } else { 1 + r.below(4) };
+        (0..steps).fold(v, |v, _| if on { v.next_up() } else { v.next_down() })
+    };
+    let i = match r.below(4) {
+        0 => 0.0,
+        1 => std::f64::consts::PI,
+        _ => r.between(0.0, 3.1415926),
+    };
+    [r.near(6500e3, 20000e3, 20), i, angle(r), angle(r)]
 }
 
 /// A float to print and its places: usual ones, ties and their neighbours, ends of the range, anything.

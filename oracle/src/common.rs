@@ -1,4 +1,6 @@
-//! What the judge and the programs share: moments, pass sets, random numbers, the simulator, lines of answers.
+//! What the judge and the programs share: moments, pass sets, random numbers, the simulator, lines of answers, angles around the circle.
+#[path = "around.rs"]
+pub mod around;
 #[path = "cases.rs"]
 pub mod cases;
 #[path = "files.rs"]

@@ -300,7 +300,8 @@ pub fn published(r: &mut Random) -> [Vec<u8>; 2] {
     pair.map(summed)
 }
 
-/// Two element lines, whose checksums are still to be counted: published ones, such as the port writes, or of any characters that the columns take.
+/// Two element lines, whose checksums are still to be counted: published ones, ones with the port's columns but for epoch, angles and mean motion, or of any characters
+/// that the columns take.
 fn columns(r: &mut Random) -> [Vec<u8>; 2] {
     if r.one_in(12) {
         return published(r);

@@ -10,7 +10,7 @@ pub const KINDS: &[&str] = &[
     "sqrt", "cbrt", "sin", "cos", "ln", "abs", "floor", "round", "signum", "to_degrees", "to_radians", "powi2", "powi3",
     "power", "max", "min", "rem_euclid", "to_u64", "to_i64", "wrapping_mul", "draw", "gaussian", "monna", "unmonna", "padic",
     "history", "normal", "jd", "teme", "wgs84", "prop", "pred", "poly", "pca", "rss", "grad", "solve", "search",
-    "residuals1", "residuals2", "step1", "step2", "steps1", "steps2", "fit", "lines", "checksum", "file",
+    "residuals1", "residuals2", "step1", "step2", "steps1", "steps2", "fit", "lines", "turns", "checksum", "file",
     "load", "store", "fit_lines", "determine", "parse", "put_fixed", "rfc3339", "position", "elements",
 ];
 
@@ -212,6 +212,7 @@ pub fn fields(kind: &str, seed: u64, k: u64) -> Vec<u64> {
             determination(l, &bytes, &c, &cases::name(r))
         }
         "lines" => l.bytes(&cases::name(r)).floats(&cases::printed(r)).moment(cases::moment(r)),
+        "turns" => l.bytes(&cases::name(r)).floats(&cases::turning(r)).moment(cases::moment(r)),
         "checksum" => {
             let n = r.below(80);
             let t: Vec<u8> = (0..n).map(|_| if r.one_in(2) { r.pick(b"0123456789-") } else { 32 + r.below(95) as u8 }).collect();

@@ -100,7 +100,7 @@ pub fn answered(kind: &str, fields: &[u64]) -> Option<Line> {
             let x = judge::determine(&f.bytes()?, f.list()?, f.floats()?, f.float()?, f.float()?, &f.bytes()?);
             l.refused_or(&x, put_determination)
         }
-        "lines" => {
+        "lines" | "turns" => {
             let x = judge::lines(&f.bytes()?, f.floats()?, f.moment()?);
             l.refused_or(&x, |l, t| l.bytes(t))
         }

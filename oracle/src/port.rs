@@ -9,7 +9,7 @@ pub const KINDS: &[&str] = &[
     "sqrt", "cbrt", "sin", "cos", "ln", "abs", "floor", "round", "signum", "to_degrees", "to_radians", "max",
     "min", "rem_euclid", "to_u64", "to_i64", "wrapping_mul", "draw", "gaussian", "monna", "unmonna", "padic",
     "history", "normal", "jd", "teme", "wgs84", "prop", "pred", "poly", "pca", "rss", "grad", "solve", "residuals1",
-    "residuals2", "step1", "step2", "steps1", "steps2", "lines", "checksum", "file", "load", "store", "parse", "put_fixed",
+    "residuals2", "step1", "step2", "steps1", "steps2", "lines", "turns", "checksum", "file", "load", "store", "parse", "put_fixed",
     "rfc3339", "position", "elements",
 ];
 

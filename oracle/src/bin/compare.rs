@@ -1,6 +1,8 @@
 //! compare SEED COUNT [published] [KIND..]: COUNT cases of each kind that the port has (or of those named), the port
 //! against the patched original, or the published one (which differs: it shows that the comparison can see). Prints, for each kind, cases, refusals by number and differences, and the first few differing
-//! lines. Ends with 1 if there was any difference.
+//! lines. Ends with 1 if there was any difference. Element lines are compared by `around.rs`, the port's checksums by the original's own function; in how many cases
+//! a field is 360.0000 of the original and 0.0000 of the port is printed too.
+use common::around;
 use common::inputs::{fields, first_field};
 use std::collections::BTreeMap;
 
@@ -46,7 +48,8 @@ fn main() {
     for kind in kinds {
         let began = std::time::Instant::now();
         let mut refusals: BTreeMap<u64, u64> = BTreeMap::new();
-        let mut differences = 0;
+        let (mut differences, mut turned) = (0, 0);
+        let with_lines = around::KINDS.contains(&kind);
         let original = if published { published_side::answered } else { patched_side::answered };
         for k in 0..count {
             let given = fields(kind, seed, k);
@@ -63,7 +66,10 @@ fn main() {
                     }
                 }
             }
-            if said != got {
+            let agree = if with_lines { around::same(kind, answer(&said), answer(&got), patched::judge::checksum) } else { said == got };
+            // Answers that agree and are not the same have a field that was turned.
+            turned += (agree && said != got) as u64;
+            if !agree {
                 differences += 1;
                 if differences <= 3 {
                     println!("DIFFERENCE {kind} {seed} {k}\n  original {}\n  port     {}", said, got);
@@ -75,9 +81,10 @@ fn main() {
         }
         let refused: Vec<String> = refusals.iter().map(|(n, c)| format!("{n}: {c}")).collect();
         println!(
-            "{kind}: {count} cases, {differences} differences, {:.1} s{}",
+            "{kind}: {count} cases, {differences} differences, {:.1} s{}{}",
             began.elapsed().as_secs_f64(),
-            first_field(kind).map_or(String::new(), |what| format!("; {what} {}", refused.join(", ")))
+            first_field(kind).map_or(String::new(), |what| format!("; {what} {}", refused.join(", "))),
+            if with_lines { format!("; 360.0000 in {turned}") } else { String::new() }
         );
         all += count;
         unlike += differences;

@@ -5,6 +5,7 @@
 //! entry point, the inputs by refusal; stops at the first fault.
 //! damage SEED COUNT [exact] digits: COUNT pairs of written element lines, which must read back to their digits, and each of their digits changed to each
 //! other one, which must be refused.
+use common::around;
 use common::cases;
 use common::files;
 use common::numbers::Random;
@@ -18,7 +19,8 @@ mod port;
 
 const ENTRIES: [&str; 9] = ["file", "load", "lines", "checksum", "stored", "parse", "rfc3339", "position", "elements"];
 
-/// The two element lines of an orbit, as the patched original writes them; in every fourth an angle prints as 360.0000.
+/// The two element lines of an orbit, as the port has to write them: the patched original's, with 0.0000 for a node or mean anomaly of 360.0000 (document 02 [3]).
+/// One in four, by chance, is given such an angle, beside those that are drawn with one anyway.
 fn written(r: &mut Random) -> [Vec<u8>; 2] {
     loop {
         let mut e = cases::printed(r);
@@ -27,7 +29,7 @@ fn written(r: &mut Random) -> [Vec<u8>; 2] {
         }
         if let Ok(text) = patched::judge::lines(b"", e, cases::inside(r)) {
             let lines: Vec<Vec<u8>> = text.split(|&b| b == b'\n').map(|line| line.to_vec()).collect();
-            return [lines[1].clone(), lines[2].clone()];
+            return [lines[1].clone(), around::turned(&lines[2])];
         }
     }
 }
@@ -44,8 +46,7 @@ fn printed(pair: &[Vec<u8>; 2]) -> [u64; 6] {
     let (line1, line2) = (words(0), words(1));
     let (year, day) = line1[3].split_at(2);
     let motion = &line2[7][..line2[7].len() - 6];
-    let anomaly = if line2[6] == "360.0000" { 0 } else { number(line2[6]) };
-    [number(year), number(day), number(line2[2]), number(line2[3]), anomaly, number(motion)]
+    [number(year), number(day), number(line2[2]), number(line2[3]), number(line2[6]), number(motion)]
 }
 
 /// Written, published and other element lines, of a pool of pairs.
@@ -278,11 +279,12 @@ impl Run {
         self.read_elements(&pair).err().unwrap_or(0)
     }
 
-    /// A written pair reads back to its digits, and with any digit changed to any other it is refused: by 14 in the first column, else by 15.
+    /// A written pair reads back to its digits, node and mean anomaly below a turn, and with any digit changed to any other it is refused: by 14 in the first
+    /// column, else by 15.
     fn digits(&mut self, refusals: &mut BTreeMap<u32, u64>) -> u32 {
         let pair = written(&mut self.r);
-        let got = self.read_elements(&pair);
-        assert!(got == Ok(printed(&pair).to_vec()), "{got:?} of {}", shown(&pair));
+        let (got, said) = (self.read_elements(&pair), printed(&pair));
+        assert!(got == Ok(said.to_vec()) && said[3] < 3_600_000 && said[4] < 3_600_000, "{got:?} of {}", shown(&pair));
         for (line, at) in (0..138).map(|k| (k / 69, k % 69)).filter(|&(line, at)| pair[line][at].is_ascii_digit()) {
             for digit in (b'0'..=b'9').filter(|&d| d != pair[line][at]) {
                 let mut changed = pair.clone();

@@ -1,7 +1,9 @@
 //! simulate passes SEED PASSES SAMPLES NAME DIR: writes a simulated set to DIR as pass files, and the words that fit_passes needs.
-//! simulate lines SEED PASSES SAMPLES NAME: the element lines of the patched original for that set, or its refusal.
+//! simulate lines SEED PASSES SAMPLES NAME: the element lines that fit_passes has to print for that set, or its refusal: the patched original's, with 0.0000 for a node
+//! or mean anomaly of 360.0000 (document 02 [3]).
 //! simulate found PASSES SAMPLES FIRST COUNT: fits the sets of COUNT seeds by the patched original and says how many gave the true orbit.
 //! simulate noise PASSES SAMPLES FIRST COUNT: the same, with each fit's residual beside the noise of its samples, and a table of both.
+use common::around;
 use common::simulator::{Case, Truth, known};
 use common::{Moment, Set};
 use patched::judge;
@@ -139,7 +141,7 @@ fn main() {
             let answer = judge::fit(&c.set, c.receiver, c.a, i)
                 .and_then(|f| judge::lines(name.as_bytes(), f.orbit, Moment::of_nanos(f.epoch)));
             match answer {
-                Ok(text) => print!("{}", String::from_utf8(text).unwrap()),
+                Ok(text) => print!("{}", String::from_utf8(around::turned_text(&text).expect("a name and two lines")).unwrap()),
                 Err(k) => println!("refused {k}"),
             }
         }

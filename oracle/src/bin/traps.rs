@@ -1,6 +1,7 @@
 //! traps: calls at which bits turn, with the answers that were found before, run on the patched original (and, where
-//! it says so, on the published one). Prints a line for each and, last, how many answered otherwise.
-use common::lines::bits;
+//! it says so, on the published one); and pairs of element lines with what the comparison has to say of them. Prints a line for each and, last, how many answered otherwise.
+use common::around;
+use common::lines::{Line, bits};
 use common::{Moment, Set};
 use patched::judge as j;
 use patched::judge::floats::{one, two};
@@ -284,8 +285,27 @@ fn main() {
         t.yes("raan0 = -0.0: no minus here", lines([7e6, 1.0, raan, 0.0], at(T, 0)).contains(" 0.0000 0000000"));
         t.yes("raan0 = -0.0: a minus in the Rust", plain([7e6, 1.0, raan, 0.0], at(T, 0)).contains("-0.0000 0000000"));
     }
-    for raan in [-1e-20, 6.2831852] {
-        t.yes("an angle rounding up prints 360.0000", lines([7e6, 1.0, raan, 0.0], at(T, 0)).contains(" 360.0000 0000000"));
+    // An angle rounding up prints 360.0000 in the Rust, and in the patched original; the port prints 0.0000 there (document 02 [3]).
+    let [before, nearest, after] = common::cases::EDGE;
+    for (v, degrees) in [(before, 359.99995f64.next_down()), (nearest, 359.99995), (after, 359.99995f64.next_up())] {
+        t.float(&format!("degrees of {v}"), two("rem_euclid", one("to_degrees", v).unwrap(), 360.0).unwrap(), degrees);
+    }
+    for (v, patched, published) in [
+        (-1e-20, "360.0000", "360.0000"),
+        (6.2831852, "360.0000", "360.0000"),
+        (before, "359.9999", "359.9999"),
+        (nearest, "360.0000", "360.0000"),
+        (after, "360.0000", "360.0000"),
+        (-0.0, "  0.0000", " -0.0000"),
+        (6.283185307179586, "  0.0000", "  0.0000"),
+        (-6.283185307179586, "  0.0000", " -0.0000"),
+    ] {
+        // An inclination of pi beside them prints as 180.0000.
+        let e = [7e6, pi, v, v];
+        for (who, text, angle) in [("patched", lines(e, at(T, 0)), patched), ("published", plain(e, at(T, 0)), published)] {
+            let line2 = text.lines().nth(2).unwrap();
+            t.same(&format!("{who}, inclination pi, raan0 = u0 = {v:?}"), line2[8..51].to_string(), format!("180.0000 {angle} 0000000   0.0000 {angle}"));
+        }
     }
     t.refusal("raan0 = 1e307", j::lines(b"X", [7e6, 1.0, 1e307, 0.0], at(T, 0)), 11);
     t.yes("2056's last moment", lines(e, at(common::END - 1, 999_999_999)).contains("56367.00000000"));
@@ -323,20 +343,135 @@ fn main() {
     ] {
         t.same(&format!("elements {line1:?} {line2:?}"), format!("{:?}", j::elements(line1.as_bytes(), line2.as_bytes())), said.into());
     }
-    let (mut taken, mut all) = (0, 0);
+    let (mut taken, mut below, mut all) = (0, 0, 0);
     for k in 0..20_000 {
         let r = &mut common::cases::random("written", 1, k);
         if let Ok(text) = j::lines(b"", common::cases::printed(r), common::cases::inside(r)) {
             let lines: Vec<&[u8]> = text.split(|&b| b == b'\n').collect();
             taken += j::elements(lines[1], lines[2]).is_ok() as u32;
+            below += j::elements(lines[1], &around::turned(lines[2])).is_ok_and(|x| x[3] < 3_600_000 && x[4] < 3_600_000) as u32;
             all += 1;
         }
     }
     t.yes(&format!("the reader takes the written lines of {all} orbits"), all > 10_000 && taken == all);
+    t.yes("and with 0.0000 for 360.0000 node and mean anomaly are below a turn", below == all);
     let early = plain(e, at(1767225600, 0));
     let lines: Vec<&str> = early.lines().collect();
     t.refusal("day 1 as the Rust writes it", j::elements(lines[1].as_bytes(), second.as_bytes()), 14);
     t.refusal("the Rust's second line", j::elements(first.as_bytes(), lines[2].as_bytes()), 14);
+
+    // Lines compared with the port's: the original's second line, the port's, and whether they agree. The right checksums are counted by hand.
+    let node = "2 99999  90.0000 360.0000 0000000   0.0000   0.0000 14.82366876000006";
+    let anomaly = "2 99999  90.0000   0.0000 0000000   0.0000 360.0000 14.82366876000006";
+    let both = "2 99999  90.0000 360.0000 0000000   0.0000 360.0000 14.82366876000005";
+    let last = "2 99999  90.0000 359.9999 0000000   0.0000   0.0000 14.82366876000000";
+    for (original, port, said) in [
+        (second, second, true),
+        (last, last, true),
+        (node, second, true),
+        (anomaly, second, true),
+        (both, second, true),
+        // The port prints 360.0000, in each field.
+        (node, node, false),
+        (anomaly, anomaly, false),
+        (both, both, false),
+        (both, node, false),
+        (both, anomaly, false),
+        (second, node, false),
+        (second, anomaly, false),
+        // One unit less, from either side.
+        (node, last, false),
+        (last, second, false),
+        (last, node, false),
+        (node, "2 99999  90.0000   0.0001 0000000   0.0000   0.0000 14.82366876000008", false),
+        // The same angle in other texts.
+        (node, "2 99999  90.0000 000.0000 0000000   0.0000   0.0000 14.82366876000007", false),
+        (node, "2 99999  90.0000 720.0000 0000000   0.0000   0.0000 14.82366876000006", false),
+        (node, "2 99999  90.0000  -0.0000 0000000   0.0000   0.0000 14.82366876000008", false),
+        // The original's checksum behind another field, and a wrong one behind the same.
+        (node, "2 99999  90.0000   0.0000 0000000   0.0000   0.0000 14.82366876000006", false),
+        (both, "2 99999  90.0000   0.0000 0000000   0.0000   0.0000 14.82366876000005", false),
+        (second, "2 99999  90.0000   0.0000 0000000   0.0000   0.0000 14.82366876000006", false),
+        // Wrong on both sides.
+        ("2 99999  90.0000   0.0000 0000000   0.0000   0.0000 14.82366876000006", "2 99999  90.0000   0.0000 0000000   0.0000   0.0000 14.82366876000006", false),
+        // Other columns, with right checksums.
+        (node, "2 99999  90.0001   0.0000 0000000   0.0000   0.0000 14.82366876000008", false),
+        (node, "2 99999  90.0000   0.0000 0000000   0.0000   0.0001 14.82366876000008", false),
+        (anomaly, "2 99999  90.0000   0.0001 0000000   0.0000   0.0000 14.82366876000008", false),
+        (node, "2 99999  90.0000   0.0000 0000000   0.0000   0.0000 14.82366877000008", false),
+        (node, "2 99999  90.0000   0.0000 0000000 360.0000   0.0000 14.82366876000006", false),
+        ("2 99999  90.0000   0.0000 0000000 360.0000   0.0000 14.82366876000006", second, false),
+        ("2 99999 360.0000   0.0000 0000000   0.0000   0.0000 14.82366876000007", "2 99999   0.0000   0.0000 0000000   0.0000   0.0000 14.82366876000008", false),
+        // Shorter, longer.
+        (node, &second[..68], false),
+        (node, "2 99999  90.0000   0.0000 0000000   0.0000   0.0000 14.823668760000070", false),
+    ] {
+        let [a, b] = [original, port].map(|line2| format!("X\n{first}\n{line2}\n"));
+        t.same(&format!("compared {original:?} {port:?}"), around::same_lines(a.as_bytes(), b.as_bytes(), j::checksum).to_string(), said.to_string());
+    }
+    let whole = format!("X\n{first}\n{second}\n");
+    for (port, said) in [
+        (whole.clone(), true),
+        (whole.replace('X', "Y"), false),
+        (whole.replace('X', ""), false),
+        (whole.replace("26163", "26164"), false),
+        (whole.replace("9998", "9997"), false),
+        (whole.replace("26163", "26164").replace("9998", "9999"), false),
+        (whole[..whole.len() - 1].to_string(), false),
+        (whole.clone() + "\n", false),
+    ] {
+        let agree = around::same_lines(format!("X\n{first}\n{node}\n").as_bytes(), port.as_bytes(), j::checksum);
+        t.same(&format!("compared with a node of 360.0000 {port:?}"), agree.to_string(), said.to_string());
+    }
+    // The sums of the port's own lines: wrong in line 1 of both, and right ones by sums that have another for line 1, for line 2, and for neither.
+    let sums: [(&str, String, fn(&str) -> u32, bool); 4] = [
+        ("wrong in line 1 of both", whole.replace("9998", "9997"), j::checksum, false),
+        ("by a sum of 7", whole.clone(), |_| 7, false),
+        ("by a sum of 8", whole.clone(), |_| 8, false),
+        ("by the sums that they have", whole.clone(), |line| if line.starts_with('1') { 8 } else { 7 }, true),
+    ];
+    for (what, text, checksum, said) in sums {
+        t.same(&format!("compared, checksums {what}"), around::same_lines(text.as_bytes(), text.as_bytes(), checksum).to_string(), said.to_string());
+    }
+    // The same in whole answers: of lines alone, and behind a fit, whose fields must agree too.
+    let packed = |l: Line, line2: &str| l.word(0).bytes(format!("X\n{first}\n{line2}\n").as_bytes());
+    let fitted = |sum: f64| {
+        let l = Line::default().word(0).floats(&[7e6, pi / 2.0, 0.0, 0.0]).moment(at(T, 0)).float(sum).list(&[3.0, sum]);
+        (0..4).fold(l, |l, _| l.list(&[0.0, 1.0]))
+    };
+    let alone = |line2| packed(Line::default(), line2);
+    let refused = |number| Line::default().word(number);
+    for (kind, what, original, port, said) in [
+        ("lines", "360.0000 and 0.0000", alone(node), alone(second), true),
+        ("lines", "360.0000 in both", alone(node), alone(node), false),
+        ("lines", "refused here alone", alone(node), refused(11), false),
+        ("lines", "refused", refused(11), refused(11), true),
+        ("lines", "refused by another number", refused(11), refused(4), false),
+        ("turns", "360.0000 and 0.0000", alone(node), alone(second), true),
+        ("turns", "360.0000 in both", alone(node), alone(node), false),
+        ("fit_lines", "360.0000 and 0.0000", packed(fitted(2.0), node), packed(fitted(2.0), second), true),
+        ("determine", "360.0000 twice and 0.0000 twice", packed(fitted(2.0), both), packed(fitted(2.0), second), true),
+        ("determine", "the same, without 360.0000", packed(fitted(2.0), second), packed(fitted(2.0), second), true),
+        ("determine", "360.0000 in both", packed(fitted(2.0), node), packed(fitted(2.0), node), false),
+        ("determine", "another sum", packed(fitted(2.0), node), packed(fitted(1.0), second), false),
+        ("determine", "lines refused", fitted(2.0).word(11), fitted(2.0).word(11), true),
+        ("determine", "lines refused in the Rust alone", fitted(2.0).word(11), packed(fitted(2.0), second), false),
+        ("determine", "lines refused, another sum", fitted(2.0).word(11), fitted(1.0).word(11), false),
+        ("determine", "refused", refused(24), refused(24), true),
+        ("determine", "refused by another number", refused(24), refused(23), false),
+        // Answers that have not the kind's shape agree with none, not with themselves either.
+        ("lines", "nothing in both", Line::default(), Line::default(), false),
+        ("lines", "no text in both", refused(0), refused(0), false),
+        ("lines", "a field more here", alone(second), alone(second).word(0), false),
+        ("lines", "a field more in both", alone(second).word(0), alone(second).word(0), false),
+        ("lines", "a refusal with a field more in both", refused(11).word(0), refused(11).word(0), false),
+        ("lines", "a fit before them in both", packed(fitted(2.0), second), packed(fitted(2.0), second), false),
+        ("determine", "no fit before them in both", alone(second), alone(second), false),
+        ("determine", "a fit alone in both", fitted(2.0), fitted(2.0), false),
+        ("determine", "cut in a list in both", refused(0).floats(&[7e6; 4]).moment(at(T, 0)).float(2.0).word(2), refused(0).floats(&[7e6; 4]).moment(at(T, 0)).float(2.0).word(2), false),
+    ] {
+        t.same(&format!("compared {kind}: {what}"), around::same(kind, &original.0, &port.0, j::checksum).to_string(), said.to_string());
+    }
 
     // Pass files.
     let samples = |text: &str| match j::file(text.as_bytes()) {
