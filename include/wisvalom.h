@@ -202,8 +202,9 @@ uint32_t wisvalom_fit_orbit_doppler(const uint32_t *counts, size_t n_counts, con
                                     double *log, size_t log_room, double *scratch, size_t scratch_room, double *a, double *i,
                                     double *raan0, double *u0, int64_t *epoch, uint32_t *epoch_nanos, size_t *trials, double *best);
 
-/* The checksum of a line's first 68 bytes; the name line and the two element lines, *length bytes of them. Refuses: 4, 11, 21; *length is
- * then 0. */
+/* The checksum of a line's first 68 bytes; the name line and the two element lines, *length bytes of them. Inclinations are printed from 0.0000
+ * to 180.0000 degrees, nodes and mean anomalies from 0.0000 to 359.9999: one that rounds to 360.0000 is printed 0.0000. Refuses: 4, 11, 21;
+ * *length is then 0. */
 uint32_t wisvalom_tle_checksum(const uint8_t *line, size_t n_line);
 uint32_t wisvalom_format_tle_catalog(const uint8_t *name, size_t n_name, double a, double i, double raan0, double u0,
                                      int64_t epoch, uint32_t epoch_nanos, uint8_t *out, size_t out_room, size_t *length);
