@@ -14,6 +14,14 @@ use Rattle.tle.proofs.Accepted.{sound, angle-up, motion-up}
 use Rattle.tle.proofs.second_line.Statement.{statement}
 use Rattle.tle.proofs.second_line.Tie as tie
 
+returns : tie.Need-returns
+unfolding line2
+returns c =
+    let b = c .before .before in
+    let d = b .before .before in
+    c .line-2 .ensures
+    ∙ simp (c .before .mean-motion .ensures, b .within-turn2 .ensures, b .before .degrees3 .ensures, d .within-turn .ensures, d .before .degrees2 .ensures, d .before .before .degrees .ensures)
+
 -- an angle of the orbit, and its columns
 held : (x r : Float) → T (angleFits x) → r ≡ printedDegrees x → T (within r)
 held x r f e = subst (λ (v : Float). T (within v)) (sym e) (angle-up x f .range)
@@ -48,14 +56,6 @@ line-2-requires c κs =
       subst (λ (v : Float). T (printable v 8 11 52 69)) (sym (c .mean-motion .ensures))
           (prints _ 8 11 52 54 (motion-up (o .a) (s .radius)) (lit≤ tt) (lit≤ tt) (lit≤ tt) (lit≤ tt) (lit≤ tt) (lit< tt)),
     )
-
-returns : tie.Need-returns
-unfolding line2
-returns c =
-    let b = c .before .before in
-    let d = b .before .before in
-    c .line-2 .ensures
-    ∙ simp (c .before .mean-motion .ensures, b .within-turn2 .ensures, b .before .degrees3 .ensures, d .within-turn .ensures, d .before .degrees2 .ensures, d .before .before .degrees .ensures)
 
 pub second-line-spec : {M : Type 1} → statement M
 second-line-spec =
