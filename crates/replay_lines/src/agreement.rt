@@ -2,7 +2,7 @@
 // has 360.0000; line 2 then has another checksum than the original's, but always the right one. All other bytes are the same. The functions
 // that require something are internal: their callers meet it by proof.
 ghost use mathlib.Core.Path.{_≡_};
-ghost use Prim.Native.Nat.{_+_, _≤_, _<_};
+ghost use Prim.Native.Nat.{_≤_, _<_};
 ghost use lib.ListN.{length, take};
 ghost use Rattle.tle.specs.Printed.{columnsOf};
 ghost use Rattle.replay_lines.specs.Agreement.{sameColumns, isTurn, sameAngle, ownSum, sameSum, sameAngles, sameRest, line2Agrees, textAgrees, packedBytes, storedAgrees, linesAgree};
