@@ -1,5 +1,7 @@
 // Reads lines of stored answers: a word, fields of 16 hexadecimal digits each after a blank, ` =`, fields. What stands past a line's end
 // counts as 0.
+#![tactic(auto)]
+
 pub mod hex;
 
 ghost use Rattle.std.specs.Prelude.{◌≡◌, ◌+◌, ◌%◌, ◌≤◌, length, take, drop, eqb, pos};
@@ -238,7 +240,7 @@ pub fn times(fields: &[u8], out: &mut [i64])
 }
 
 // How long a pass set's lists are said to be.
-#[derive(Drop)]
+#[derive(Clone, Copy)]
 pub struct SetSizes {
     pub counts: u64,
     pub centers: u64,

@@ -1,5 +1,7 @@
 // Text put into a lent buffer, piece after piece, as far as there is room. Each function takes the place to begin at and answers the place
 // behind what it put.
+#![tactic(auto)]
+
 ghost use Rattle.std.specs.Prelude.{[], ◌∷◌, ◌<◌};
 ghost use Rattle.append.specs.Append.{Appends, leading_of, numeral};
 

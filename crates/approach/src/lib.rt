@@ -1,4 +1,6 @@
 // Predicted moments of closest approach, and the sum of squares that the search for a start makes small.
+#![tactic(auto)]
+
 pub mod pca;
 pub mod sums;
 pub mod turns;
@@ -14,14 +16,14 @@ use orbit::Elements;
 use orbit::doppler::Station;
 
 // A sum, or the number of a refusal.
-#[derive(Drop)]
+#[derive(Clone, Copy)]
 pub struct Rss {
     pub refusal: u32,
     pub rss: f64,
 }
 
 // The sum's differences by a, i, raan0 and u0, each over its step.
-#[derive(Drop)]
+#[derive(Clone, Copy)]
 pub struct Gradient {
     pub grad_a: f64,
     pub grad_i: f64,
@@ -30,28 +32,28 @@ pub struct Gradient {
 }
 
 // A gradient, or the number of a refusal.
-#[derive(Drop)]
+#[derive(Clone, Copy)]
 pub struct Gradients {
     pub refusal: u32,
     pub gradient: Gradient,
 }
 
 // A sample's distance from the centre frequency, and which it is.
-#[derive(Drop)]
+#[derive(Clone, Copy)]
 pub struct Nearest {
     pub offset: f64,
     pub at: usize,
 }
 
 // The square of the least distance so far, and the seconds of its moment.
-#[derive(Drop)]
+#[derive(Clone, Copy)]
 pub struct Closest {
     pub dist: f64,
     pub secs: u64,
 }
 
 // A stage of the search for the closest moment: n moments, step seconds apart, from half seconds before the best so far.
-#[derive(Drop)]
+#[derive(Clone, Copy)]
 pub struct Stage {
     pub half: u64,
     pub step: u64,

@@ -1,5 +1,7 @@
 // What a fit is given: its refusals before it works, and its non-empty passes. `non_empty`, `first_center`, `scratch_size` and
 // `has_room` ask for sizes that passed refusal 5; the fit meets that by proof.
+#![tactic(auto)]
+
 ghost use Rattle.std.specs.Prelude.{◌≡◌, ◌+◌, ◌*◌, ◌≤◌, length};
 ghost use Rattle.arguments.specs.Passes.{center_of, Compacts};
 ghost use Rattle.arguments.specs.Refusals.{nan_argument, out_of_range, any_nan, scratch_size, room_of, enough, input_refusal_of};
@@ -11,7 +13,7 @@ use pass_set::MAX_PASSES;
 pub const MAX_TRIALS: usize = 150;
 
 // The counts of the non-empty passes in the first places, and how many they are.
-#[derive(Drop)]
+#[derive(Clone, Copy)]
 pub struct NonEmpty {
     pub counts: [u32; MAX_PASSES],
     pub passes: usize,

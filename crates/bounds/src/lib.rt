@@ -1,1 +1,2 @@
 // Bounds on floats that survive rounding: in proofs/, and no code.
+#![tactic(auto)]

@@ -1,4 +1,6 @@
 // What document 01's checking program prints of a pass file: its first 32 KiB are read.
+#![tactic(auto)]
+
 pub mod program;
 
 ghost use Rattle.append.specs.Append.{Appends};

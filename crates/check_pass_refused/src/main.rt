@@ -1,4 +1,6 @@
 // The checking program on a file that is refused.
+#![tactic(auto)]
+
 fn main() {
     check_line::program::run();
 }

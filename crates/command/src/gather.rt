@@ -7,7 +7,7 @@ use passes::file;
 use passes::file::PassFile;
 
 // Whether a name was seen, how many bytes the name to print has, and where its file belongs in the order of time.
-#[derive(Drop)]
+#[derive(Clone, Copy)]
 pub struct Name {
     pub seen: bool,
     pub size: usize,
@@ -16,7 +16,7 @@ pub struct Name {
 
 // The set so far, which stands in the first places of the arrays. `failed`: the last file added nothing, by this refusal, or 0 where
 // it could not be read.
-#[derive(Drop)]
+#[derive(Clone, Copy)]
 pub struct Gathered {
     pub failed: bool,
     pub refusal: u32,

@@ -11,7 +11,7 @@ use orbit::doppler::{DfPoly, Prediction};
 use solution::SolvedOrbit;
 
 // What all predictions share: the fit's orbit and centre frequency, and the mast.
-#[derive(Drop)]
+#[derive(Clone, Copy)]
 pub struct Fitted {
     pub orbit: SolvedOrbit,
     pub center_freq: f64,
@@ -19,7 +19,7 @@ pub struct Fitted {
 }
 
 // What the samples of a pass share: its biases, and the first sample's moment.
-#[derive(Drop)]
+#[derive(Clone, Copy)]
 pub struct Pass {
     pub dt: f64,
     pub df: DfPoly,
@@ -27,7 +27,7 @@ pub struct Pass {
 }
 
 // The biases of a pass that has samples; NaN of one that has none.
-#[derive(Drop)]
+#[derive(Clone, Copy)]
 pub struct Biases {
     pub sampled: bool,
     pub dt: f64,
@@ -37,7 +37,7 @@ pub struct Biases {
 }
 
 // What a walk over the passes has come to: the squares added, the next sample, and the number of non-empty passes.
-#[derive(Drop)]
+#[derive(Clone, Copy)]
 pub struct Walk {
     pub sum: f64,
     pub at: usize,

@@ -1,5 +1,7 @@
 // The command's words: maybe --as-received, then the mast by three Earth-fixed metres or by one position line, an inclination in degrees,
 // then 1 to 16 file names.
+#![tactic(auto)]
+
 ghost use Rattle.std.specs.Prelude.{◌≡◌, ◌≤◌};
 ghost use Rattle.decimal.specs.Read.{spells};
 ghost use Rattle.command_words.specs.Words.{as_received, off_ground, is_line, mast_words, layout_of, request_of, mast_of, x_of, y_of, z_of, inclination_of, line_mast};
@@ -29,7 +31,7 @@ pub fn is_off_ground(v: Vec3) -> bool
 }
 
 // Whether --as-received was said, which word the first file is, and how many files there are.
-#[derive(Drop)]
+#[derive(Clone, Copy)]
 pub struct Layout {
     pub received: bool,
     pub first: usize,
@@ -38,7 +40,7 @@ pub struct Layout {
 
 // The mast's position in metres and an inclination in radians; or which of X, Y, Z and the inclination, counted from 1, is no number, or
 // is one with too many digits or too large an exponent; or the number by which a position line is refused.
-#[derive(Drop)]
+#[derive(Clone, Copy)]
 pub enum Mast {
     At(Vec3, f64),
     NoNumber(usize),
@@ -47,7 +49,7 @@ pub enum Mast {
 }
 
 // What the words ask for.
-#[derive(Drop)]
+#[derive(Clone, Copy)]
 pub enum Request {
     TooFew,
     TooMany,

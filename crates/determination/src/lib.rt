@@ -1,4 +1,6 @@
 // Fit and element lines in one call, from arrays and from stored bytes. Both calls take any input.
+#![tactic(auto)]
+
 ghost use Rattle.std.specs.Prelude.{◌≡◌, ◌&&◌, leb, eqb, length};
 ghost use Rattle.stored.specs.Sets.{passes_in};
 ghost use Rattle.fit.specs.Answer.{arguments, outputs};
@@ -10,7 +12,7 @@ use pass_set::{MAX_PASSES, MAX_SAMPLES};
 use tle::Catalog;
 
 // The fit's answer, and that of the lines: their own refusal, or the fit's with 0 bytes.
-#[derive(Drop)]
+#[derive(Clone, Copy)]
 pub struct Determination {
     pub fit: Fit,
     pub lines: Catalog,

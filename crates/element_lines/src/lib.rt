@@ -1,4 +1,6 @@
 // Two element lines of the NORAD two-line format, read into whole numbers. The public function takes any input.
+#![tactic(auto)]
+
 mod columns;
 mod numbers;
 
@@ -6,7 +8,7 @@ ghost use Rattle.std.specs.Prelude.{◌≡◌, length};
 ghost use Rattle.element_lines.specs.Reading as Reading;
 
 // What the lines say, and 0; if refused, the number and zeros. Each is a whole number in units of its last printed place.
-#[derive(Drop)]
+#[derive(Clone, Copy)]
 pub struct Elements {
     pub refusal: u32,
     // The epoch: the last two digits of the year, and 10^-8 days of the year, of which January 1 is day 1.

@@ -1,4 +1,6 @@
 // What the program `read_lines` prints of an input: its first two lines are read as element lines.
+#![tactic(auto)]
+
 pub mod program;
 
 ghost use Rattle.std.specs.Prelude.{◌≡◌, take};

@@ -1,6 +1,8 @@
 // Functions that other languages link: numbers pass as themselves, a slice as its start and length. The names begin
 // with the program's, since a name is the whole program's, as in C. Those that can refuse return the number of the
 // refusal, 0 if none, and write what they give into `out`.
+#![tactic(auto)]
+
 pub mod determinations;
 pub mod draws;
 pub mod elements;

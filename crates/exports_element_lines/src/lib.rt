@@ -1,5 +1,7 @@
 // Element lines read for other languages, a static library beside that of `exports` and by its rules: a call returns the number of the refusal,
 // 0 if none, and writes the whole numbers of `element_lines::Elements` into `out`; refused, it leaves `out` as it was.
+#![tactic(auto)]
+
 ghost use Rattle.element_lines.specs.Reading.{read_element_lines_of};
 ghost use Rattle.exports_element_lines.specs.Written.{GivesElements};
 

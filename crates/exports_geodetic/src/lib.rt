@@ -1,5 +1,7 @@
 // A mast's place for other languages, a static library beside that of `exports` and by its rules: a call returns the number of the refusal,
 // 0 if none, and writes the Earth-fixed metres x, y, z into `out`; refused, it leaves `out` as it was.
+#![tactic(auto)]
+
 ghost use Rattle.geodetic.specs.Ellipsoid.{wgs84_to_ecef_of};
 ghost use Rattle.geodetic.specs.Line.{read_position_of};
 ghost use Rattle.exports_geodetic.specs.Written.{Gives};

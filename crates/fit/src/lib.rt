@@ -1,5 +1,7 @@
 // The fit of a circular orbit to Doppler passes. `fit_orbit_doppler` takes any input; the other functions ask what it has checked,
 // and it meets that by proof.
+#![tactic(auto)]
+
 ghost use Rattle.std.specs.Prelude.{◌≡◌, ◌||◌, ◌++◌, ◌≤◌, ◌<◌, length, drop};
 ghost use Rattle.std.specs.Float.Ieee.{lt};
 ghost use Rattle.refusal.specs.Order.{first};
@@ -21,7 +23,7 @@ use solution::SolvedOrbit;
 use trials::{Refinement, State, Trials};
 
 // A refusal's number with zeros, or 0 with the orbit, the number of trials and the best sum.
-#[derive(Drop)]
+#[derive(Clone, Copy)]
 pub struct Fit {
     pub refusal: u32,
     pub orbit: SolvedOrbit,
@@ -30,7 +32,7 @@ pub struct Fit {
 }
 
 // What the work came to: 23, 24, 25 or 0, and the second refinement's trials where it is 0.
-#[derive(Drop)]
+#[derive(Clone, Copy)]
 pub struct Solved {
     pub refusal: u32,
     pub trials: Trials,

@@ -1,5 +1,7 @@
 // The command: fits one circular orbit to the passes in the files that its words name, and writes its name line and element lines to
 // standard output. Everything else goes to standard error. `fit_passes`, `fit_passes_latitude` and `fit_passes_refused` are this on three sets of words.
+#![tactic(auto)]
+
 mod fitting;
 
 ghost use Rattle.std.specs.Prelude.{◌≤◌};

@@ -1,4 +1,6 @@
 // See `fit_command`.
+#![tactic(auto)]
+
 fn main() {
     fit_command::run();
 }

@@ -1,4 +1,6 @@
 // Document 01's float helpers: least, greatest, size, sign, floor, remainder, angles; sine and cosine; casts.
+#![tactic(auto)]
+
 pub mod cast;
 pub mod log;
 pub mod trig;

@@ -9,14 +9,14 @@ const FULL: f64 = 6.283185307179586;
 
 const QUARTER: f64 = 1.5707963267948966;
 
-#[derive(Drop)]
+#[derive(Clone, Copy)]
 pub struct SinCos {
     pub sin: f64,
     pub cos: f64,
 }
 
 // An angle's quarter turns modulo 4, and the rest.
-#[derive(Drop)]
+#[derive(Clone, Copy)]
 struct Reduced {
     pub quadrant: u8,
     pub rest: f64,
@@ -175,7 +175,7 @@ pub fn sin_cos(v: f64) -> SinCos
 }
 
 // Two angles at once: the four polynomials stand in one straight line, so that the compiler may pack them.
-#[derive(Drop)]
+#[derive(Clone, Copy)]
 struct Four {
     pub s: f64,
     pub c: f64,
@@ -183,7 +183,7 @@ struct Four {
     pub d: f64,
 }
 
-#[derive(Drop)]
+#[derive(Clone, Copy)]
 pub struct Pair {
     pub u: SinCos,
     pub v: SinCos,

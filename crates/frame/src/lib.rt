@@ -1,4 +1,6 @@
 // Julian date, and the rotation from the inertial to the Earth-fixed frame.
+#![tactic(auto)]
+
 ghost use Rattle.std.specs.Prelude.{◌≡◌, ◌<◌, ◌≤◌};
 ghost use Rattle.frame.specs.Julian.{julian_of, day_fraction, jd_of, jd_at, datetime_to_jd_of};
 ghost use Rattle.frame.specs.Rotation.{gmst_of, theta_of, rotated_of, ecef_of};
@@ -9,7 +11,7 @@ use float::trig::SinCos;
 use moment::calendar::Date;
 use moment::{Given, Instant, Moment};
 
-#[derive(Drop)]
+#[derive(Clone, Copy)]
 pub struct Vec3 {
     pub x: f64,
     pub y: f64,
@@ -17,7 +19,7 @@ pub struct Vec3 {
 }
 
 // Position and velocity.
-#[derive(Drop)]
+#[derive(Clone, Copy)]
 pub struct State {
     pub x: f64,
     pub y: f64,
@@ -28,7 +30,7 @@ pub struct State {
 }
 
 // A Julian date, or the number of a refusal.
-#[derive(Drop)]
+#[derive(Clone, Copy)]
 pub enum JulianDate {
     At(f64),
     Refused(u32),

@@ -1,5 +1,7 @@
 // A mast's place: latitude and longitude in degrees and height in metres into Earth-fixed metres on WGS 84's ellipsoid, and the line that says
 // the three. The public functions take any input.
+#![tactic(auto)]
+
 pub mod line;
 
 ghost use Rattle.std.specs.Prelude.{◌≡◌};
@@ -8,7 +10,7 @@ ghost use Rattle.geodetic.specs.Ellipsoid as Ellipsoid;
 use frame::Vec3;
 
 // Earth-fixed metres, as the fit takes them, and 0; if refused, the number and zeros.
-#[derive(Drop)]
+#[derive(Clone, Copy)]
 pub struct Position {
     pub refusal: u32,
     pub ecef: Vec3,

@@ -1,1 +1,2 @@
 // Laws that several crates' proofs cite: in proofs/, and no code.
+#![tactic(auto)]

@@ -1,6 +1,8 @@
 // Linear systems by Gaussian elimination with partial pivoting, on flat lent slices. Each function does what the definition
 // of the same name in specs/Elimination.antt says; a loop's body is a function of its own. `solve_linear_system` asks nothing
 // of its caller; the functions above it are its own, and it meets what they require.
+#![tactic(auto)]
+
 ghost use Rattle.std.specs.Prelude.{◌≡◌, ◌+◌, ◌*◌, ◌<◌, ◌≤◌, length, replicate};
 ghost use Rattle.float.specs.Ops.{bits};
 ghost use Rattle.loops.specs.Loop.{for, rev, Made, Settled};
@@ -227,7 +229,7 @@ fn eliminate(m: &[f64], v: &[f64], n: usize, sol: &mut [f64], a: &mut [f64]) -> 
 }
 
 // What a call answers: the solution is in the lent output, or the number of a refusal.
-#[derive(Drop)]
+#[derive(Clone, Copy)]
 pub enum Solution {
     Found,
     Refused(u32),

@@ -1,4 +1,6 @@
 // What the command says on standard error: `report_text` makes the report's lines, and here they are written.
+#![tactic(auto)]
+
 ghost use Rattle.io.specs.Counts.{IsPrefixLen};
 
 use command::report::Biases;

@@ -1,4 +1,6 @@
 // Moments, the time between two, and the Gregorian calendar.
+#![tactic(auto)]
+
 pub mod calendar;
 pub mod sample;
 pub mod time;
@@ -28,20 +30,20 @@ pub const COUNTS_START: u64 = 17588186044416;
 pub const COUNT_1970: i64 = 4000000000000000000;
 
 // Whole seconds since 1970-01-01T00:00:00Z, and nanoseconds after them.
-#[derive(Drop)]
+#[derive(Clone, Copy)]
 pub struct Moment {
     pub seconds: i64,
     pub nanos: u32,
 }
 
 // The same counted from 2^44 seconds before 1970: no moment that a call meets is below zero.
-#[derive(Drop)]
+#[derive(Clone, Copy)]
 pub struct Instant {
     pub secs: u64,
     pub nanos: u32,
 }
 
-#[derive(Drop)]
+#[derive(Clone, Copy)]
 pub enum Given {
     At(Instant),
     Outside,

@@ -1,5 +1,7 @@
 // The generator and the digit maps of the search. Every function of this file takes any input; the module `inner` has what
 // they are made of, with `requires` that each caller meets by proof.
+#![tactic(auto)]
+
 pub mod inner;
 pub mod rng;
 
@@ -8,14 +10,14 @@ ghost use Rattle.monna.specs.Digits.{is_base, normalized_of};
 ghost use Rattle.monna.specs.Answers.{monna_map_of, inverse_monna_map_of, p_adic_distance_of, Differs};
 
 // A number, or the number of a refusal.
-#[derive(Drop)]
+#[derive(Clone, Copy)]
 pub enum Mapped {
     Value(f64),
     Refused(u32),
 }
 
 // A whole number, or the number of a refusal.
-#[derive(Drop)]
+#[derive(Clone, Copy)]
 pub enum Inverse {
     Value(u64),
     Refused(u32),

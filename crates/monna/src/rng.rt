@@ -3,13 +3,13 @@
 ghost use Rattle.std.specs.Prelude.{◌≡◌};
 ghost use Rattle.monna.specs.Rng.{draw_of, gaussian_of};
 
-#[derive(Drop)]
+#[derive(Clone, Copy)]
 pub struct SimpleRng {
     pub state: u64,
 }
 
 // What a draw gives, and the generator after it.
-#[derive(Drop)]
+#[derive(Clone, Copy)]
 pub struct Draw {
     pub value: f64,
     pub rng: SimpleRng,

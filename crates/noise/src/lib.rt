@@ -1,12 +1,14 @@
 // The noise that the samples of passes show by themselves, and what a fit's residual is beside it. The functions that require something are
 // internal: their callers meet it by proof.
+#![tactic(auto)]
+
 ghost use Rattle.std.specs.Prelude.{◌≡◌, ◌≤◌, ◌+◌, get_or};
 ghost use Rattle.std.specs.Float.{nan};
 ghost use Rattle.noise.specs.Noise.{between_of, seconds_at, moments_at, product_of, products_of, products_at, apart_of, weights_of, frequencies_at, difference_of, weight_size, window_of, windows_of, pass_sums, estimate_of};
 ghost use Rattle.noise.specs.Verdict.{bound_of, ratio_of, verdict_of};
 
 // A number for each of five neighbouring samples.
-#[derive(Drop)]
+#[derive(Clone, Copy)]
 pub struct Five {
     pub a: f64,
     pub b: f64,
@@ -16,14 +18,14 @@ pub struct Five {
 }
 
 // The squares of the windows' noise added, how many windows there are, and the next pass's first sample.
-#[derive(Drop)]
+#[derive(Clone, Copy)]
 pub struct Sums {
     pub squares: f64,
     pub windows: f64,
     pub at: usize,
 }
 
-#[derive(Drop)]
+#[derive(Clone, Copy)]
 pub enum Finding {
     AtNoise,
     Doubtful,

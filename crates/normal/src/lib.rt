@@ -1,6 +1,8 @@
 // The normal equations of a table of derivatives, damped and solved: the step from one set of parameters to the next, for both
 // refinements. Each function does what the definition of its contract in specs/ says; a loop's body is a function of its own.
 // The functions are called with what they require by the crates above, which meet it by proof.
+#![tactic(auto)]
+
 ghost use Rattle.std.specs.Prelude.{◌≡◌, ◌+◌, ◌*◌, ◌<◌, ◌≤◌, length};
 ghost use Rattle.float.specs.Ops.{at};
 ghost use Rattle.loops.specs.Loop.{for};
@@ -277,7 +279,7 @@ fn take_step(delta: &[f64], n: usize, x: &mut [f64]) -> f64
 
 // Where a step leads: to the next set, with the step's size; nowhere, for want of residuals, which the caller tests; nowhere, by the
 // solver's refusal 22; or to the refusal of this number, which the residuals gave.
-#[derive(Drop)]
+#[derive(Clone, Copy)]
 pub enum Step {
     Next(f64),
     Short,
@@ -365,7 +367,7 @@ fn table_step(
 }
 
 // A step's answer, with the set that it leads to.
-#[derive(Drop)]
+#[derive(Clone, Copy)]
 pub struct Stepped {
     pub step: Step,
     pub params: [f64; PARAMS],

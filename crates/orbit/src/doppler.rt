@@ -14,18 +14,18 @@ use moment::{Given, Instant, Moment};
 const C: f64 = 299792458.0;
 
 // A frequency, or the number of a refusal.
-#[derive(Drop)]
+#[derive(Clone, Copy)]
 pub enum Prediction {
     Frequency(f64),
     Refused(u32),
 }
 
 // A bias and its first two derivatives.
-#[derive(Drop)]
+#[derive(Clone, Copy)]
 pub struct DfPoly(pub f64, pub f64, pub f64);
 
 // What all predictions of a fit share: the epoch of the elements, the centre frequency in Hz, and the receiver's place, Earth-fixed in m.
-#[derive(Drop)]
+#[derive(Clone, Copy)]
 pub struct Station {
     pub epoch: Instant,
     pub center_freq: f64,
@@ -34,7 +34,7 @@ pub struct Station {
 
 // An orbit seen from a station, with what is worked out once for all its predictions: the orbit's rates, and the potential at the
 // receiver.
-#[derive(Drop)]
+#[derive(Clone, Copy)]
 pub struct Sight {
     pub station: Station,
     pub e: Elements,

@@ -1,4 +1,6 @@
 // A circular orbit with drifting node: position, velocity and the received frequency.
+#![tactic(auto)]
+
 pub mod doppler;
 
 ghost use Rattle.std.specs.Prelude.{◌≡◌, ◌<◌, ◌≤◌};
@@ -15,7 +17,7 @@ const J2: f64 = 1.0826263e-3;
 
 const RE: f64 = 6378137.0;
 
-#[derive(Drop)]
+#[derive(Clone, Copy)]
 pub struct Elements {
     pub a: f64,
     pub i: f64,
@@ -24,7 +26,7 @@ pub struct Elements {
 }
 
 // What depends on a and i alone: mean motion, speed, node rate, and sine and cosine of i.
-#[derive(Drop)]
+#[derive(Clone, Copy)]
 pub struct Rates {
     pub n: f64,
     pub v: f64,
@@ -78,7 +80,7 @@ pub fn propagate(e: Elements, k: Rates, tau: f64, turn: SinCos) -> State
 }
 
 // An Earth-fixed state, or the number of a refusal.
-#[derive(Drop)]
+#[derive(Clone, Copy)]
 pub enum Ecef {
     At(State),
     Refused(u32),

@@ -1,4 +1,6 @@
 // From a pass set to the bytes of standard output. It serves the command, which lends arrays of the right lengths.
+#![tactic(auto)]
+
 ghost use Rattle.std.specs.Prelude.{◌≡◌, cond, length};
 ghost use Rattle.pass_set.specs.PassSet.{Sizes};
 ghost use Rattle.received.specs.Mirror.{mirrored_all};

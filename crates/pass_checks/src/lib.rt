@@ -1,5 +1,7 @@
 // What the command tells of a gathered pass set: a pass that is there twice, a frequency that is not a number, and a file of another
 // satellite's name. `nan_pass` and `twin` ask for sizes that agree; the command meets that by proof.
+#![tactic(auto)]
+
 ghost use Rattle.std.specs.Prelude.{◌≡◌, ◌<◌, length, eqb};
 ghost use Rattle.std.specs.Float.Ieee.{eq};
 ghost use Rattle.pass_set.specs.PassSet.{pass_of};

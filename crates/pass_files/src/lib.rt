@@ -1,5 +1,7 @@
 // The files that the command names: each is opened, read and closed, and `command::gather` adds it to the pass set. What is wrong with
 // one is told on standard error.
+#![tactic(auto)]
+
 pub mod say;
 
 ghost use Rattle.std.specs.Prelude.{◌≡◌, ◌≤◌, length};
@@ -13,7 +15,7 @@ use command::gather::{Gathered, Name};
 const MAX_FILE: usize = 1114112;
 
 // How many bytes a file has, or that it could not be read.
-#[derive(Drop)]
+#[derive(Clone, Copy)]
 struct Content {
     failed: bool,
     size: usize,
@@ -113,7 +115,7 @@ fn add_content(
 }
 
 // A file that a word names: the name's length, and a descriptor, negative where it could not be opened, which has been told.
-#[derive(Drop)]
+#[derive(Clone, Copy)]
 struct Opened {
     fd: i32,
     length: usize,

@@ -1,6 +1,8 @@
 // A pass set in flat arrays: `counts` has the number of samples of each pass, `times` and `freqs` one element per sample,
 // pass after pass, and `centers` one centre frequency per pass, empty ones too. A loop over passes keeps the place k where
 // the next pass begins and lends the part k..k + counts[p]; specs/PassSet.antt says which part of the array that is.
+#![tactic(auto)]
+
 ghost use Rattle.std.specs.Prelude.{◌≡◌, ◌≤◌, length};
 ghost use Rattle.pass_set.specs.PassSet.{total, sizes_agree};
 

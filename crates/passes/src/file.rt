@@ -7,7 +7,7 @@ use super::line::Line;
 use super::{line, pieces};
 
 // What a file says, with the name as a part of it: from name_start up to name_end.
-#[derive(Drop)]
+#[derive(Clone, Copy)]
 pub struct PassFile {
     pub refusal: u32,
     pub name_start: usize,

@@ -16,7 +16,7 @@ const READER_2057: u64 = 64912838400;
 
 const FROM_1957: i64 = 410227200000000000;
 
-#[derive(Drop)]
+#[derive(Clone, Copy)]
 pub enum Line {
     Skipped,
     Refusal(u32),

@@ -3,14 +3,14 @@ ghost use Rattle.std.specs.Prelude.{◌≡◌, ◌+◌, ◌≤◌, ◌<◌, leng
 ghost use Rattle.passes.specs.Text as Text;
 
 // A part of a slice.
-#[derive(Drop)]
+#[derive(Clone, Copy)]
 pub struct Span {
     pub start: usize,
     pub end: usize,
 }
 
 // A line's length without its end, and the place of the next.
-#[derive(Drop)]
+#[derive(Clone, Copy)]
 pub struct Cut {
     pub size: usize,
     pub next: usize,

@@ -2,6 +2,8 @@
 // against the original's alone: for `oracle/` and the programs that replay stored answers. The fit does not use them. They take any
 // input. Refused: 4 and 5 as elsewhere; 21, the lent memory is shorter than any set needs; 23. A refusal gives a record of zeros and
 // writes nothing. The epoch is the first sample's moment; empty passes are passes like others, with biases of their own.
+#![tactic(auto)]
+
 pub mod exported;
 
 ghost use Rattle.std.specs.Prelude.{◌≡◌, ◌*◌, ◌≤◌, length, get_or};
@@ -49,7 +51,7 @@ const SAMPLES: usize = 4096;
 const TURNS: usize = 8192;
 
 // The best angles and their sum, or the number of a refusal.
-#[derive(Drop)]
+#[derive(Clone, Copy)]
 pub struct Searched {
     pub refusal: u32,
     pub raan0: f64,
@@ -58,14 +60,14 @@ pub struct Searched {
 }
 
 // A penalised sum, or the number of a refusal.
-#[derive(Drop)]
+#[derive(Clone, Copy)]
 pub struct Residuals {
     pub refusal: u32,
     pub sum: f64,
 }
 
 // The state after a trial, or the number of a refusal.
-#[derive(Drop)]
+#[derive(Clone, Copy)]
 pub struct Tried {
     pub refusal: u32,
     pub state: State,

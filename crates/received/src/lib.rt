@@ -1,4 +1,6 @@
 // Frequencies as a receiver hears them, turned into those that the fit predicts: mirrored at the centre.
+#![tactic(auto)]
+
 ghost use Rattle.std.specs.Prelude.{◌≡◌, map, length};
 ghost use Rattle.pass_set.specs.PassSet.{Sizes};
 ghost use Rattle.received.specs.Mirror.{mirrored, mirrored_all};

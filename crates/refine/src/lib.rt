@@ -1,6 +1,8 @@
 // What follows a trial of either refinement: the table of derivatives, by forward differences, and the damped step. Each
 // function does what the definition of its contract in specs/ says; a loop's body is a function of its own.
 // All but `advance` are this crate's own, and `advance` asks what the fit has checked.
+#![tactic(auto)]
+
 ghost use Rattle.std.specs.Prelude.{◌≡◌, ◌+◌, ◌*◌, ◌<◌, ◌≤◌, length};
 ghost use Rattle.loops.specs.Loop.{for, try};
 ghost use Rattle.residuals.specs.Samples.{passes_of, Samples};

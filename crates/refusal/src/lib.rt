@@ -1,4 +1,5 @@
 // The refusals of documents 01 and 02, by number. 0 says that a call was not refused.
+#![tactic(auto)]
 
 // From the input.
 // A pass file or a position line holds a byte above 127.

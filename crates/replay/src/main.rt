@@ -1,6 +1,8 @@
 // Asks stored answers again: standard input is a list of lines, each a question with its answer (`crates/answer_lines`), which
 // `oracle/store` makes. A line `not ..` has an answer that was changed and must differ, so that a comparison which finds everything the
 // same is found out; the last line, `end ..`, says how many lines stand before it, so that a list which is cut is found out.
+#![tactic(auto)]
+
 mod files;
 mod rooms;
 mod unpacked;
@@ -11,7 +13,7 @@ ghost use Rattle.replay.specs.Count.{lines_in, counted, tally_with, tally_ended,
 ghost use Rattle.replay.specs.Report.{list_ending, report_text, Reports};
 
 // What the lines came to so far.
-#[derive(Drop)]
+#[derive(Clone, Copy)]
 struct Tally {
     agreed: u64,
     differed: u64,

@@ -1,4 +1,6 @@
 // Asks stored answers of element lines again: two lines, and what is read of them. For the program `replay`.
+#![tactic(auto)]
+
 ghost use Rattle.text.specs.Text.{bytes};
 ghost use Rattle.answer_lines.specs.Lines.{OnlyWords};
 

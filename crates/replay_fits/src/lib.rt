@@ -1,4 +1,6 @@
 // Asks stored answers of fits again: residuals and trials of the refinements, whole fits. For the program `replay`.
+#![tactic(auto)]
+
 mod fits;
 mod refinements;
 mod rooms;

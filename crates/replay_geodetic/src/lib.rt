@@ -1,4 +1,6 @@
 // Asks stored answers of a mast's place again: by its three numbers, and by a line that says them. For the program `replay`.
+#![tactic(auto)]
+
 ghost use Rattle.text.specs.Text.{bytes};
 ghost use Rattle.answer_lines.specs.Lines.{OnlyWords};
 

@@ -1,4 +1,6 @@
 // Asks stored answers of element lines that are written, and of their checksums, again. For the program `replay`.
+#![tactic(auto)]
+
 pub mod agreement;
 
 ghost use Rattle.text.specs.Text.{bytes};

@@ -1,5 +1,7 @@
 // Asks stored answers of numbers again: roots and the other functions of floats, the generator and the digit maps, dates and motion, systems of
 // equations. For the program `replay`.
+#![tactic(auto)]
+
 mod digits;
 mod motion;
 mod numbers;

@@ -1,4 +1,6 @@
 // Asks stored answers of sums again: closest moments, sums of squares, their gradients and whole searches. For the program `replay`.
+#![tactic(auto)]
+
 mod rooms;
 mod sums;
 

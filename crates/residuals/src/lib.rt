@@ -1,6 +1,8 @@
 // The residuals of a set of parameters and their penalised sum, for both refinements: what a trial compares. Definitions in
 // specs/. `second` says which refinement: in the first a pass has two biases, in the second four.
 // The functions of this crate are called with what they require by the crates above, which meet it by proof.
+#![tactic(auto)]
+
 ghost use Rattle.std.specs.Prelude.{◌≡◌, true, ◌++◌, ◌+◌, ◌*◌, ◌<◌, ◌≤◌, length, get_or, set, take, pos};
 ghost use Rattle.std.specs.Float.Ieee.{neg};
 ghost use Rattle.float.specs.Ops.{bits};
@@ -39,7 +41,7 @@ pub const PARAMS: usize = 68;
 pub const ROWS: usize = 4144;
 
 // A set of parameters of either refinement, and what its predictions share.
-#[derive(Drop)]
+#[derive(Clone, Copy)]
 pub struct Point {
     pub second: bool,
     pub station: Station,
@@ -47,14 +49,14 @@ pub struct Point {
 }
 
 // A pass's frequency bias: df, or df0 with its first two derivatives.
-#[derive(Drop)]
+#[derive(Clone, Copy)]
 pub enum Bias {
     Constant(f64),
     Polynomial(DfPoly),
 }
 
 // A penalised sum, or the number of a refusal.
-#[derive(Drop)]
+#[derive(Clone, Copy)]
 pub enum Sum {
     Value(f64),
     Refused(u32),

@@ -1,4 +1,6 @@
 // A date and time as RFC 3339 writes it.
+#![tactic(auto)]
+
 ghost use Rattle.std.specs.Prelude.{◌≡◌, ◌+◌, ◌-◌, ◌*◌, ◌≤◌, ◌<◌, length, drop};
 ghost use Rattle.decimal.specs.Read.{digit_run};
 ghost use Rattle.rfc3339.specs.Rfc3339 as Rfc;
@@ -7,7 +9,7 @@ use decimal::{fixed, read};
 use moment::calendar;
 
 // Seconds from a day before the year 0000 in UTC, and nanoseconds.
-#[derive(Drop)]
+#[derive(Clone, Copy)]
 pub enum Timestamp {
     Nothing,
     At(u64, u64),

@@ -9,7 +9,7 @@ ghost use Rattle.roots.specs.Nearest.{Nearest, IsProduct};
 use crate::parts;
 
 // high * 2 ^ 54 + low
-#[derive(Drop)]
+#[derive(Clone, Copy)]
 struct Wide {
     high: u64,
     low: u64,

@@ -1,4 +1,6 @@
 // The square root and the cube root of an `f64`, correctly rounded.
+#![tactic(auto)]
+
 pub mod cube;
 mod parts;
 

@@ -3,7 +3,7 @@ ghost use Rattle.std.specs.Prelude.{◌<◌};
 ghost use Rattle.roots.specs.Parts.{IsParts};
 
 // digits * 2 ^ exponent, in units of 2 ^ -1126, with 53 binary digits
-#[derive(Drop)]
+#[derive(Clone, Copy)]
 pub(crate) struct Parts {
     pub digits: u64,
     pub exponent: u64,

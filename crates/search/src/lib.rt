@@ -1,6 +1,8 @@
 // The Langevin search for the node and the argument of latitude: from each start of a 12 by 12 grid a trajectory of 15 steps, of
 // which the least sum is kept. Inner functions: they ask for a pass set that passed refusals 4 and 5, and for its table of
 // rotations or an empty one. A start's result depends on the arguments and on its number alone.
+#![tactic(auto)]
+
 ghost use Rattle.std.specs.Prelude.{◌≡◌, ◌+◌, ◌<◌, ◌≤◌, length, take};
 ghost use Rattle.monna.specs.Digits.{Base};
 ghost use Rattle.search.specs.Sum.{SumReady, fixed_sum};
@@ -27,7 +29,7 @@ use orbit::Elements;
 use orbit::doppler::Station;
 
 // What a search holds fixed beside its passes.
-#[derive(Drop)]
+#[derive(Clone, Copy)]
 pub struct Fixed {
     pub station: Station,
     pub a: f64,
@@ -35,20 +37,20 @@ pub struct Fixed {
 }
 
 // The signs of the sum's differences by the two angles.
-#[derive(Drop)]
+#[derive(Clone, Copy)]
 pub struct Signs {
     pub raan0: f64,
     pub u0: f64,
 }
 
-#[derive(Drop)]
+#[derive(Clone, Copy)]
 pub struct Angles {
     pub raan0: f64,
     pub u0: f64,
 }
 
 // Two angles and their sum.
-#[derive(Drop)]
+#[derive(Clone, Copy)]
 pub struct Best {
     pub raan0: f64,
     pub u0: f64,
@@ -56,7 +58,7 @@ pub struct Best {
 }
 
 // A trajectory after some of its steps. history holds a sum for each of them, in its first places.
-#[derive(Drop)]
+#[derive(Clone, Copy)]
 pub struct Trajectory {
     pub raan0: f64,
     pub u0: f64,
@@ -68,7 +70,7 @@ pub struct Trajectory {
 }
 
 // Where a gradient step with noise leads, and a draw for the scrambling.
-#[derive(Drop)]
+#[derive(Clone, Copy)]
 pub struct Proposal {
     pub raan0: f64,
     pub u0: f64,
@@ -77,7 +79,7 @@ pub struct Proposal {
 }
 
 // The best of some starts: which, its angles and their sum.
-#[derive(Drop)]
+#[derive(Clone, Copy)]
 pub struct Found {
     pub start: usize,
     pub raan0: f64,

@@ -1,4 +1,6 @@
 // The orbit that a fit gives and the line writer takes.
+#![tactic(auto)]
+
 use moment::Moment;
 
 // The radii that a fit gives and the lines take.
@@ -7,7 +9,7 @@ pub const LEAST_A: f64 = 6500e3;
 pub const MOST_A: f64 = 20000e3;
 
 // A circular orbit at its epoch: radius in metres, inclination, node and argument of latitude in radians.
-#[derive(Drop)]
+#[derive(Clone, Copy)]
 pub struct SolvedOrbit {
     pub a: f64,
     pub i: f64,

@@ -1,10 +1,12 @@
 // Standard input, read into a lent buffer.
+#![tactic(auto)]
+
 ghost use Rattle.standard_input.specs.Input.{ReadInto};
 
 use libc::STDIN_FILENO;
 
 // How many bytes stand in the buffer now; or the input cannot be read, as a directory or a closed one, which is no empty input.
-#[derive(Drop)]
+#[derive(Clone, Copy)]
 pub enum Input {
     Bytes(usize),
     Unreadable,

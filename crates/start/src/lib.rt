@@ -1,5 +1,7 @@
 // Where the two refinements start. The functions of this crate ask for a pass set that passed refusals 4 and 5, with no empty
 // pass; the fit meets that by proof.
+#![tactic(auto)]
+
 ghost use Rattle.std.specs.Prelude.{◌≡◌, ◌<◌, length};
 ghost use Rattle.moment.specs.Range.{Within};
 ghost use Rattle.pass_set.specs.PassSet.{AtPass};
@@ -27,7 +29,7 @@ use residuals::PARAMS;
 // ---- the radius
 
 // Periods of revolution: their sum in seconds, and how many there are.
-#[derive(Drop)]
+#[derive(Clone, Copy)]
 pub struct Periods {
     pub sum: f64,
     pub count: f64,

@@ -1,5 +1,7 @@
 // A pass set as stored bytes: u32 pass count, one u32 sample count per pass, all times (i64 nanoseconds since 1970), all frequencies
 // (f64 bits), little-endian, nothing after.
+#![tactic(auto)]
+
 mod arrays;
 pub mod number;
 
@@ -7,7 +9,7 @@ ghost use Rattle.std.specs.Prelude.{◌≡◌};
 ghost use Rattle.stored.specs.Sets as Sets;
 
 // What a set that was loaded has.
-#[derive(Drop)]
+#[derive(Clone, Copy)]
 pub struct Loaded {
     pub refusal: u32,
     pub passes: usize,
@@ -15,7 +17,7 @@ pub struct Loaded {
 }
 
 // How many bytes were stored.
-#[derive(Drop)]
+#[derive(Clone, Copy)]
 pub struct Stored {
     pub refusal: u32,
     pub size: usize,

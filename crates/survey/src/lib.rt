@@ -1,4 +1,6 @@
 // Which lines of a pass file were skipped, and which was refused: for messages.
+#![tactic(auto)]
+
 ghost use Rattle.std.specs.Prelude.{◌≡◌, ◌≤◌, eqb, length};
 ghost use Rattle.passes.specs.Text.{trim, lines};
 ghost use Rattle.passes.specs.Line.{line_of};
@@ -17,7 +19,7 @@ const REFUSED: u8 = 3;
 
 // How many lines were read, how many of them said something, how many were skipped without being empty, the first of these, and the
 // line that was refused; lines count from 1, and 0 stands for none.
-#[derive(Drop)]
+#[derive(Clone, Copy)]
 pub struct Tally {
     pub lines: usize,
     pub used: usize,

@@ -44,7 +44,7 @@ fn day_fraction(secs: u32, nanos: u32) -> f64
 }
 
 // The year, and the day of the year with its fraction.
-#[derive(Drop)]
+#[derive(Clone, Copy)]
 pub struct Epoch {
     pub year: u32,
     pub day: f64,

@@ -1,4 +1,6 @@
 // An orbit as a name line and two element lines, by the columns of the NORAD two-line format.
+#![tactic(auto)]
+
 mod elements;
 mod lines;
 
@@ -13,7 +15,7 @@ use moment::{Given, Instant};
 use solution::SolvedOrbit;
 
 // A refusal's number and 0, or 0 and the number of bytes of the text.
-#[derive(Drop)]
+#[derive(Clone, Copy)]
 pub struct Catalog {
     pub refusal: u32,
     pub length: usize,

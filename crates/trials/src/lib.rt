@@ -1,6 +1,8 @@
 // The trials of a refinement, as the trial book of crate `book` has them. `second` says which refinement. The state is one
 // record by value: `trial` compares the next set's sum with the best, `follow` does what follows. The functions ask what the fit
 // has checked, and it meets that by proof.
+#![tactic(auto)]
+
 ghost use Rattle.std.specs.Prelude.{◌≡◌, ◌++◌, ◌+◌, ◌*◌, ◌≤◌, length, take, drop};
 ghost use Rattle.residuals.specs.Samples.{passes_of, Samples};
 ghost use Rattle.residuals.specs.Residuals.{rows_of, residuals, penalised_sum};
@@ -17,7 +19,7 @@ use orbit::doppler::Station;
 use residuals::{PARAMS, Point, ROWS, Sum};
 
 // Which refinement, whether its residuals are enough for a step, and what its predictions share.
-#[derive(Drop)]
+#[derive(Clone, Copy)]
 pub struct Refinement {
     pub second: bool,
     pub enough: bool,
@@ -25,7 +27,7 @@ pub struct Refinement {
 }
 
 // The set to try next, the best sum with its set, the damping, and whether the refinement has ended.
-#[derive(Drop)]
+#[derive(Clone, Copy)]
 pub struct State {
     pub params: [f64; PARAMS],
     pub best_params: [f64; PARAMS],
@@ -35,7 +37,7 @@ pub struct State {
 }
 
 // What a trial leaves: the sum or its refusal, whether the sum was below the best, and the state after it.
-#[derive(Drop)]
+#[derive(Clone, Copy)]
 pub struct Tried {
     pub sum: Sum,
     pub kept: bool,
@@ -43,14 +45,14 @@ pub struct Tried {
 }
 
 // What follows a trial: where the step led, and the state after it.
-#[derive(Drop)]
+#[derive(Clone, Copy)]
 pub struct Followed {
     pub step: Step,
     pub state: State,
 }
 
 // How many trials were made, and the state they ended in.
-#[derive(Drop)]
+#[derive(Clone, Copy)]
 pub struct Trials {
     pub count: usize,
     pub state: State,
