@@ -10,21 +10,8 @@ use lib.Pow.{pow_pos}
 use Rattle.roots.specs.Power.{cube}
 use Rattle.roots.specs.Nearest.{Nearest}
 use Rattle.roots.proofs.Power.{cube_power}
-use Rattle.roots.proofs.cube.nearest_cube_root.Statement.{statement}
-use Rattle.roots.proofs.cube.nearest_cube_root.Tie as tie
-
-record Between (m low high : ℕ) : Type 0 where
-  less : low < high
-  least : 4503599627370496 ≤ low
-  most : high ≤ 9007199254740993
-  below : cube (low * 2 - 1) ≤ m * 2 ^ 107
-  above : m * 2 ^ 107 < cube (high * 2 - 1)
-
-abbrev invariant-loop : tie.invariant-loop
-invariant-loop m low₀ high₀ low high = Between m low high
-
-abbrev decreases-loop : tie.decreases-loop
-decreases-loop m low₀ high₀ low high = high - low
+use Rattle.roots.proofs.cube.nearest_cube_root.Invariants.{Between}
+use Rattle.roots.proofs.cube.nearest_cube_root.Goals as goal
 
 halved : (low high : ℕ) → 1 < high - low → (low < low + (high - low) / 2) × (low + (high - low) / 2 < high)
 halved low high t = (omega arith, omega arith)
@@ -76,8 +63,8 @@ first = lit≤ tt
 last : 36028797018963968 * 2 ^ 107 ≤ cube (9007199254740993 * 2 - 1)
 last = lit≤ tt
 
-loop-holds : tie.Need-loop-init invariant-loop decreases-loop
-loop-holds c = record {
+pub loop-high-init : goal.loop-high-init
+loop-high-init c = record {
   less = omega arith;
   least = omega arith;
   most = omega arith;
@@ -85,60 +72,41 @@ loop-holds c = record {
   above = lt_of_lt_of_le (mul-lt-mul_of_pos_right c.requires.1 (pow_pos 107)) last;
 }
 
-sub-loop : tie.Need-overflow-sub-loop invariant-loop decreases-loop
-sub-loop c = let i = c.loop.invariant in omega (arith, i.less)
+pub overflow_sub-high : goal.overflow_sub-high
+overflow_sub-high c = let i = c.loop-high.invariant in omega (arith, i.less)
 
-sub-mid : tie.Need-overflow-sub-mid invariant-loop decreases-loop
-sub-mid c = let i = c.before.loop.invariant in omega (arith, i.less)
+pub overflow_sub-mid : goal.overflow_sub-mid
+overflow_sub-mid c = let i = c.loop-high.invariant in omega (arith, i.less)
 
-add-mid : tie.Need-overflow-add-mid invariant-loop decreases-loop
-add-mid c = let i = c.before.loop.invariant in omega (arith, i.less, i.most)
+pub overflow_add-mid : goal.overflow_add-mid
+overflow_add-mid c = let i = c.loop-high.invariant in omega (arith, i.less, i.most)
 
-mul-cube-at-most : tie.Need-overflow-mul-cube-at-most invariant-loop decreases-loop
-mul-cube-at-most c = let i = c.before.loop.invariant in omega (arith, i.less, i.most)
+pub overflow_mul-mid : goal.overflow_mul-mid
+overflow_mul-mid c = let i = c.loop-high.invariant in omega (arith, i.less, i.most)
 
-sub-cube-at-most : tie.Need-overflow-sub-cube-at-most invariant-loop decreases-loop
-sub-cube-at-most c = let i = c.before.loop.invariant in omega (arith, i.least)
+pub overflow_sub-mid-in-loop-high : goal.overflow_sub-mid-in-loop-high
+overflow_sub-mid-in-loop-high c = let i = c.loop-high.invariant in omega (arith, i.least)
 
-cube-at-most-requires : tie.Need-cube-at-most-requires invariant-loop decreases-loop
-cube-at-most-requires c κs = let i = c.before.loop.invariant in (omega (arith, i.less, i.most), c.before.before.requires.1)
+pub cube_at_most-requires : goal.cube_at_most-requires
+cube_at_most-requires c = let i = c.loop-high.invariant in (omega (arith, i.less, i.most), c.requires.1)
 
-loop-less : tie.Need-loop-smaller invariant-loop decreases-loop
-loop-less c = omega (arith, c.before.before.loop-test.true)
+pub loop-high-smaller-then-cube_at_most : goal.loop-high-smaller-then-cube_at_most
+loop-high-smaller-then-cube_at_most c = omega (arith, c.loop-high-test.true)
 
-loop-again : tie.Need-loop-preserved invariant-loop decreases-loop
-loop-again c =
-    let l = c.before.before.before.loop in
-    let m = c.before.before.before.before.args.m in
-    raise m l.low l.high l.invariant c.before.before.loop-test.true (yes (cube ((l.low + (l.high - l.low) / 2) * 2 - 1)) (m * 2 ^ 107) c.before.cube-at-most.result c.before.cube-at-most.ensures c.if1.true)
+pub loop-high-preserved-then-cube_at_most : goal.loop-high-preserved-then-cube_at_most
+loop-high-preserved-then-cube_at_most c =
+    let l = c.loop-high in
+    let m = c.args.m in
+    raise m l.low l.high l.invariant c.loop-high-test.true (yes (cube ((l.low + (l.high - l.low) / 2) * 2 - 1)) (m * 2 ^ 107) c.cube_at_most.result c.cube_at_most.ensures c.if-cube_at_most.true)
 
-loop-less-2 : tie.Need-loop-smaller-2 invariant-loop decreases-loop
-loop-less-2 c = omega (arith, c.before.before.loop-test.true)
+pub loop-high-smaller : goal.loop-high-smaller
+loop-high-smaller c = omega (arith, c.loop-high-test.true)
 
-loop-again-2 : tie.Need-loop-preserved-2 invariant-loop decreases-loop
-loop-again-2 c =
-    let l = c.before.before.before.loop in
-    let m = c.before.before.before.before.args.m in
-    lower m l.low l.high l.invariant c.before.before.loop-test.true (no (cube ((l.low + (l.high - l.low) / 2) * 2 - 1)) (m * 2 ^ 107) c.before.cube-at-most.result c.before.cube-at-most.ensures c.if1.false)
+pub loop-high-preserved : goal.loop-high-preserved
+loop-high-preserved c =
+    let l = c.loop-high in
+    let m = c.args.m in
+    lower m l.low l.high l.invariant c.loop-high-test.true (no (cube ((l.low + (l.high - l.low) / 2) * 2 - 1)) (m * 2 ^ 107) c.cube_at_most.result c.cube_at_most.ensures c.if-cube_at_most.false)
 
-returns : tie.Need-returns invariant-loop decreases-loop
-returns c = let l = c.before.loop in found c.before.before.args.m l.low l.high l.invariant c.loop-test.false
-
-pub nearest-cube-root-spec : {M : Type 1} → statement M
-nearest-cube-root-spec =
-    tie.close
-    (tie.spec
-    invariant-loop
-    decreases-loop
-    loop-holds
-    sub-loop
-    sub-mid
-    add-mid
-    mul-cube-at-most
-    sub-cube-at-most
-    cube-at-most-requires
-    loop-less
-    loop-again
-    loop-less-2
-    loop-again-2
-    returns)
+pub returns : goal.returns
+returns c = let l = c.loop-high in found c.args.m l.low l.high l.invariant c.loop-high-test.false

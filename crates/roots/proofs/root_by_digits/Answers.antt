@@ -7,21 +7,8 @@ use lib.Pow.{pow_pos}
 use Rattle.roots.specs.Power.{square}
 use Rattle.roots.specs.Nearest.{Nearest}
 use Rattle.roots.proofs.Square.{by_rest}
-use Rattle.roots.proofs.root_by_digits.Statement.{statement}
-use Rattle.roots.proofs.root_by_digits.Tie as tie
-
--- root * root + rem are the digits of m * 2 ^ 52 that were taken: those without the 2 * i last ones. What is left of m's are the highest of rest's 54.
-record Taken (m rest root rem i : ℕ) : Type 0 where
-  low : rem ≤ 2 * root
-  digits : rest < 18014398509481984
-  room : suc root * 2 ^ i ≤ 9007199254740992
-  is : ((root * root + rem) * 18014398509481984 + rest) * 4 ^ i ≡ m * 4 ^ 53
-
-abbrev invariant-loop : tie.invariant-loop
-invariant-loop m rest₀ root₀ rem₀ i₀ rest root rem i = Taken m rest root rem i
-
-abbrev decreases-loop : tie.decreases-loop
-decreases-loop m rest₀ root₀ rem₀ i₀ rest root rem i = i
+use Rattle.roots.proofs.root_by_digits.Invariants.{Taken}
+use Rattle.roots.proofs.root_by_digits.Goals as goal
 
 small : {m rest root rem i : ℕ} → Taken m rest root rem i → root < 9007199254740992
 small {m} {rest} {root} {rem} {i} t = le_trans (le_trans (le_of_eq (sym (mul-one (suc root)))) (mul-le-mul_left (suc root) (pow_pos i))) t.room
@@ -83,83 +70,58 @@ down n zero rem e h p = absurd (none n rem e h p)
     none n rem e h p = omega arith
 down n (suc r) rem e h p = by_rest n (suc r) (omega arith) (omega arith) (omega arith)
 
-loop-holds : tie.Need-loop-init invariant-loop decreases-loop
-loop-holds c = record { low = omega arith; digits = omega arith; room = omega arith; is = omega arith }
+pub loop-i-init : goal.loop-i-init
+loop-i-init c = record { low = omega arith; digits = omega arith; room = omega arith; is = omega arith }
 
-sub-i : tie.Need-overflow-sub-i invariant-loop decreases-loop
-sub-i c = omega arith
+pub overflow_sub-i : goal.overflow_sub-i
+overflow_sub-i c = omega arith
 
-mul-rem : tie.Need-overflow-mul-rem invariant-loop decreases-loop
-mul-rem c = omega (arith, small c.before.loop.invariant, c.before.loop.invariant.low)
+pub overflow_mul-rem : goal.overflow_mul-rem
+overflow_mul-rem c = omega (arith, small c.loop-i.invariant, c.loop-i.invariant.low)
 
-add-rem : tie.Need-overflow-add-rem invariant-loop decreases-loop
-add-rem c = omega (arith, small c.before.loop.invariant, c.before.loop.invariant.low, c.before.loop.invariant.digits)
+pub overflow_add-rem : goal.overflow_add-rem
+overflow_add-rem c = omega (arith, small c.loop-i.invariant, c.loop-i.invariant.low, c.loop-i.invariant.digits)
 
-mul-rest : tie.Need-overflow-mul-rest invariant-loop decreases-loop
-mul-rest c = omega arith
+pub overflow_mul-rest : goal.overflow_mul-rest
+overflow_mul-rest c = omega arith
 
-mul-root : tie.Need-overflow-mul-root invariant-loop decreases-loop
-mul-root c = omega (arith, small c.before.loop.invariant)
+pub overflow_mul-root : goal.overflow_mul-root
+overflow_mul-root c = omega (arith, small c.loop-i.invariant)
 
-mul-if1 : tie.Need-overflow-mul-if1 invariant-loop decreases-loop
-mul-if1 c = omega (arith, small c.before.loop.invariant)
+pub overflow_mul-root-in-loop-i : goal.overflow_mul-root-in-loop-i
+overflow_mul-root-in-loop-i c = omega (arith, small c.loop-i.invariant)
 
-mul-rem-2 : tie.Need-overflow-mul-rem-2 invariant-loop decreases-loop
-mul-rem-2 c = omega (arith, small c.before.before.loop.invariant)
+pub overflow_mul-rem-then-rem-root : goal.overflow_mul-rem-then-rem-root
+overflow_mul-rem-then-rem-root c = omega (arith, small c.loop-i.invariant)
 
-add-rem-2 : tie.Need-overflow-add-rem-2 invariant-loop decreases-loop
-add-rem-2 c = omega (arith, small c.before.before.loop.invariant)
+pub overflow_add-rem-then-rem-root : goal.overflow_add-rem-then-rem-root
+overflow_add-rem-then-rem-root c = omega (arith, small c.loop-i.invariant)
 
-sub-rem : tie.Need-overflow-sub-rem invariant-loop decreases-loop
-sub-rem c = omega arith
+pub overflow_sub-rem : goal.overflow_sub-rem
+overflow_sub-rem c = omega arith
 
-add-root : tie.Need-overflow-add-root invariant-loop decreases-loop
-add-root c = omega (arith, small c.before.before.loop.invariant)
+pub overflow_add-root : goal.overflow_add-root
+overflow_add-root c = omega (arith, small c.loop-i.invariant)
 
-loop-less : tie.Need-loop-smaller invariant-loop decreases-loop
-loop-less c = omega arith
+pub loop-i-smaller-then-rem-root : goal.loop-i-smaller-then-rem-root
+loop-i-smaller-then-rem-root c = omega arith
 
-loop-again : tie.Need-loop-preserved invariant-loop decreases-loop
-loop-again c = let l = c.before.before.loop in one c.before.before.before.args.m l.rest l.root l.rem l.i l.invariant c.before.loop-test.true c.if1.true
+pub loop-i-preserved-then-rem-root : goal.loop-i-preserved-then-rem-root
+loop-i-preserved-then-rem-root c = let l = c.loop-i in one c.args.m l.rest l.root l.rem l.i l.invariant c.loop-i-test.true c.if-rem-root.true
 
-loop-less-2 : tie.Need-loop-smaller-2 invariant-loop decreases-loop
-loop-less-2 c = omega arith
+pub loop-i-smaller : goal.loop-i-smaller
+loop-i-smaller c = omega arith
 
-loop-again-2 : tie.Need-loop-preserved-2 invariant-loop decreases-loop
-loop-again-2 c = let l = c.before.before.loop in none c.before.before.before.args.m l.rest l.root l.rem l.i l.invariant c.before.loop-test.true c.if1.false
+pub loop-i-preserved : goal.loop-i-preserved
+loop-i-preserved c = let l = c.loop-i in none c.args.m l.rest l.root l.rem l.i l.invariant c.loop-i-test.true c.if-rem-root.false
 
-add-result : tie.Need-overflow-add-result invariant-loop decreases-loop
-add-result c = omega (arith, small c.before.before.loop.invariant)
+pub overflow_add-result : goal.overflow_add-result
+overflow_add-result c = omega (arith, small c.loop-i.invariant)
 
-returns : tie.Need-returns invariant-loop decreases-loop
-returns c = let l = c.before.before.loop in
-    up (c.before.before.before.args.m * 2 ^ 52) l.root l.rem (whole c.before.before.before.args.m l.rest l.root l.rem l.i l.invariant c.before.loop-test.false) l.invariant.low c.if2.true
+pub returns-then-rem-root-2 : goal.returns-then-rem-root-2
+returns-then-rem-root-2 c = let l = c.loop-i in
+    up (c.args.m * 2 ^ 52) l.root l.rem (whole c.args.m l.rest l.root l.rem l.i l.invariant c.loop-i-test.false) l.invariant.low c.if-rem-root-2.true
 
-returns-2 : tie.Need-returns-2 invariant-loop decreases-loop
-returns-2 c = let l = c.before.before.loop in
-    down (c.before.before.before.args.m * 2 ^ 52) l.root l.rem (whole c.before.before.before.args.m l.rest l.root l.rem l.i l.invariant c.before.loop-test.false) c.if2.false (mul-pos c.before.before.before.requires.0 (pow_pos 52))
-
-pub root-by-digits-spec : {M : Type 1} → statement M
-root-by-digits-spec =
-    tie.close
-    (tie.spec
-    invariant-loop
-    decreases-loop
-    loop-holds
-    sub-i
-    mul-rem
-    add-rem
-    mul-rest
-    mul-root
-    mul-if1
-    mul-rem-2
-    add-rem-2
-    sub-rem
-    add-root
-    loop-less
-    loop-again
-    loop-less-2
-    loop-again-2
-    add-result
-    returns
-    returns-2)
+pub returns-else-rem-root-2 : goal.returns-else-rem-root-2
+returns-else-rem-root-2 c = let l = c.loop-i in
+    down (c.args.m * 2 ^ 52) l.root l.rem (whole c.args.m l.rest l.root l.rem l.i l.invariant c.loop-i-test.false) c.if-rem-root-2.false (mul-pos c.requires.0 (pow_pos 52))
