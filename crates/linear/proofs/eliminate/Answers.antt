@@ -10,8 +10,7 @@ use Rattle.loops.specs.Loop.{for, rev, Made, Settled}
 use Rattle.linear.specs.Elimination.{Sized, forward_elimination, substitute_row, back_substitution, augment_row, augmented, solution_of}
 use borrow.Author.Tests.{not-true, not-false}
 use borrow.Author.Rules.{rules}
-use Rattle.linear.proofs.eliminate.Statement.{statement}
-use Rattle.linear.proofs.eliminate.Tie as tie
+use Rattle.linear.proofs.eliminate.Goals as goal
 
 -- What the calls ensure: the room a is cleared to z, loaded to l and eliminated to f, or refused; the solution's s is cleared to s₁ and worked out, s₂.
 module _ (n : ℕ) (m v a z l f s : List Float) (sized : Sized n a) (ez : z ≡ replicate (length a) (bits 0)) (el : l ≡ for 0 n (augment_row n m v) z) where
@@ -30,17 +29,8 @@ module _ (n : ℕ) (m v a z l f s : List Float) (sized : Sized n a) (ez : z ≡ 
       let q = rw e at p.made in
       record { said = rw (loaded, ← q); held = rw (loaded, ← q, e₂, e₁, len) }
 
-pub eliminate-spec : {M : Type 1} → statement M
-eliminate-spec =
-    tie.close
-    (tie.spec
-    (λ c κs. search rules)
-    (λ c κs. search rules)
-    (λ c κs. search rules)
-    (λ c. search rules)
-    (λ c. search (rules, singular, not-true))
-    (λ c κs. search rules)
-    (λ c κs. search rules)
-    (λ c. search rules)
-    (λ c. search rules)
-    (λ c. search (rules, found, not-false)))
+pub returns-then-not-forward_elimination : goal.returns-then-not-forward_elimination
+returns-then-not-forward_elimination c = search (rules, singular, not-true)
+
+pub returns : goal.returns
+returns c = search (rules, found, not-false)

@@ -7,8 +7,7 @@ use lib.Ieee.{Float, lt}
 use Rattle.float.specs.Ops.{abs_of, at}
 use Rattle.linear.specs.Elimination.{cell_of, larger_pivot}
 use borrow.Author.Rules.{rules}
-use Rattle.linear.proofs.larger_pivot.Statement.{statement}
-use Rattle.linear.proofs.larger_pivot.Tie as tie
+use Rattle.linear.proofs.larger_pivot.Goals as goal
 
 -- what the calls ensure: p and q are the places, x and y the sizes there
 module _ (n i r m p q : ℕ) (a : List Float) (x y : Float) (ep : p ≡ cell_of n r i) (eq : q ≡ cell_of n m i) (ex : x ≡ abs_of (at a p)) (ey : y ≡ abs_of (at a q)) where
@@ -22,17 +21,8 @@ module _ (n i r m p q : ℕ) (a : List Float) (x y : Float) (ep : p ≡ cell_of 
   smaller : lt y x ≡ false → m ≡ larger_pivot n a i r m
   smaller e = rw (picked, e)
 
-pub larger-pivot-spec : {M : Type 1} → statement M
-larger-pivot-spec =
-    tie.close
-    (tie.spec
-    (λ c κs. search rules)
-    (λ c κs. search rules)
-    (λ c. search rules)
-    (λ c. search rules)
-    (λ c κs. search rules)
-    (λ c. search rules)
-    (λ c. search rules)
-    (λ c κs. search rules)
-    (λ c. search (rules, larger))
-    (λ c. search (rules, smaller)))
+pub returns-then-abs : goal.returns-then-abs
+returns-then-abs c = search (rules, larger)
+
+pub returns-else-abs : goal.returns-else-abs
+returns-else-abs c = search (rules, smaller)
