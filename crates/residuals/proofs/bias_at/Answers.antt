@@ -7,14 +7,11 @@ use Rattle.residuals.specs.Residuals.{bias_at}
 use Rattle.residuals.specs.declared.Bias.{Bias}
 use Rattle.residuals.specs.declared.Bias.TheVariants.{Polynomial}
 use borrow.Author.Rules.{rules}
-use Rattle.residuals.proofs.bias_at.Statement.{statement}
-use Rattle.residuals.proofs.bias_at.Tie as tie
+use Rattle.residuals.proofs.bias_at.Goals as goal
 
 -- the bias y of the polynomial d that b is, at the seconds x
 polynomial : (b : Bias) (d : DfPoly) (tau x y : Float) → b ≡ Polynomial d → x ≡ tau → y ≡ bias_of d x → y ≡ bias_at b tau
 polynomial b d tau x y eb ex ey = rw (ey, ex, eb)
 
-pub bias-at-spec : {M : Type 1} → statement M
-bias-at-spec =
-    tie.close
-    (tie.spec (λ c. search rules) (λ c. search rules) (λ c κs. search rules) (λ c κs. search rules) (λ c. search rules) (λ c. search (rules, polynomial)))
+pub returns-in-Polynomial : goal.returns-in-Polynomial
+returns-in-Polynomial c = search (rules, polynomial)
