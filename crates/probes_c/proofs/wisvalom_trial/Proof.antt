@@ -1,8 +1,8 @@
--- `exported::wisvalom_trial` meets its contract. Assumes nothing.
+-- `wisvalom_trial` meets its contract. Assumes nothing.
 use borrow.Author.Rules.{rules}
-use Rattle.probes.proofs.Told.{tries_kept, tries_put}
-use Rattle.probes.proofs.exported.wisvalom_trial.Statement.{statement}
-use Rattle.probes.proofs.exported.wisvalom_trial.Tie as tie
+use Rattle.probes_c.proofs.Told.{tries_kept, tries_put}
+use Rattle.probes_c.proofs.wisvalom_trial.Statement.{statement}
+use Rattle.probes_c.proofs.wisvalom_trial.Tie as tie
 
 returns : tie.Need-returns
 returns c = tries_kept _ _ _ _ _ _ _ c.before.before.before.before.trial.ensures c.if1.true

@@ -1,8 +1,8 @@
--- `exported::wisvalom_residuals` meets its contract. Assumes nothing.
+-- `wisvalom_residuals` meets its contract. Assumes nothing.
 use borrow.Author.Rules.{rules}
-use Rattle.probes.proofs.Told.{sums_kept, sums_put}
-use Rattle.probes.proofs.exported.wisvalom_residuals.Statement.{statement}
-use Rattle.probes.proofs.exported.wisvalom_residuals.Tie as tie
+use Rattle.probes_c.proofs.Told.{sums_kept, sums_put}
+use Rattle.probes_c.proofs.wisvalom_residuals.Statement.{statement}
+use Rattle.probes_c.proofs.wisvalom_residuals.Tie as tie
 
 returns : tie.Need-returns
 returns c = sums_kept _ _ _ _ _ _ c.before.before.before.before.residuals-of.ensures c.if1.true

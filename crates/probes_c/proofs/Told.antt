@@ -10,7 +10,7 @@ use Rattle.search.specs.declared.Found.{Found}
 use Rattle.book.specs.Book.{Search, After}
 use Rattle.trials.specs.Trials.{state_search, state_after}
 use Rattle.probes.specs.Call.{Searches, Sums, residuals_answer, TrialCall, trial_refusal}
-use Rattle.probes.specs.Exported.{SearchesTo, SumsTo, ending_number, TriesTo}
+use Rattle.probes_c.specs.Exported.{SearchesTo, SumsTo, ending_number, TriesTo}
 use Rattle.probes.specs.declared.Searched.{Searched}
 use Rattle.probes.specs.declared.Residuals.{Residuals}
 use Rattle.probes.specs.declared.Tried.{Tried}

@@ -1,5 +1,7 @@
 // The calls of this crate for other languages: `oracle/` links them. A slice passes as its start and length, a refusal comes back as its
 // number, 0 if none, and leaves what the arguments point to as it was; memory that is worked in is zeros after 23, too.
+#![tactic(auto)]
+
 ghost use Rattle.std.specs.Prelude.{◌≡◌, length};
 ghost use Rattle.frame.specs.Rotation.{place};
 ghost use Rattle.search.specs.Sum.{fixed_sum};
@@ -7,7 +9,7 @@ ghost use Rattle.search.specs.Search.{search_of};
 ghost use Rattle.residuals.specs.Residuals.{residuals};
 ghost use Rattle.residuals.specs.Samples.{station_of};
 ghost use Rattle.probes.specs.Call.{probe_refusal, fixed_of, samples_of, trial_of};
-ghost use Rattle.probes.specs.Exported.{SearchesTo, SumsTo, search_at, ending_number, TriesTo};
+ghost use Rattle.probes_c.specs.Exported.{SearchesTo, SumsTo, search_at, ending_number, TriesTo};
 
 use book::Ending;
 use frame::Vec3;
@@ -32,7 +34,7 @@ pub extern "C" fn wisvalom_search_starts(
         (search_of (fixed_sum counts.now times.now freqs.now centers.now (fixed_of times.now centers.now (place x y z) a i)) 0 144)
         table.old table.new out.old out.new result }
 {
-    let answer = crate::search_starts(counts, times, freqs, centers, Vec3 { x, y, z }, a, i, table);
+    let answer = probes::search_starts(counts, times, freqs, centers, Vec3 { x, y, z }, a, i, table);
     if answer.refusal != 0 {
         return answer.refusal;
     }
@@ -59,7 +61,7 @@ pub extern "C" fn wisvalom_residuals(
         (residuals second (station_of times.now center_freq (place x y z)) (samples_of counts.now times.now freqs.now) params.now)
         out.old out.new sum.old sum.new result }
 {
-    let answer = crate::residuals_of(
+    let answer = probes::residuals_of(
         second,
         counts,
         times,
@@ -115,7 +117,7 @@ pub extern "C" fn wisvalom_trial(
 {
     let p = *params;
     let q = *best_params;
-    let answer = crate::trial(
+    let answer = probes::trial(
         second,
         counts,
         times,

@@ -1,8 +1,8 @@
--- `exported::wisvalom_search_starts` meets its contract. Assumes nothing.
+-- `wisvalom_search_starts` meets its contract. Assumes nothing.
 use borrow.Author.Rules.{rules}
-use Rattle.probes.proofs.Told.{searches_kept, searches_put}
-use Rattle.probes.proofs.exported.wisvalom_search_starts.Statement.{statement}
-use Rattle.probes.proofs.exported.wisvalom_search_starts.Tie as tie
+use Rattle.probes_c.proofs.Told.{searches_kept, searches_put}
+use Rattle.probes_c.proofs.wisvalom_search_starts.Statement.{statement}
+use Rattle.probes_c.proofs.wisvalom_search_starts.Tie as tie
 
 returns : tie.Need-returns
 returns c = searches_kept _ _ _ _ _ _ c.before.before.before.before.search-starts.ensures c.if1.true
