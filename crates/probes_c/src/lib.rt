@@ -34,7 +34,16 @@ pub extern "C" fn wisvalom_search_starts(
         (search_of (fixed_sum counts.now times.now freqs.now centers.now (fixed_of times.now centers.now (place x y z) a i)) 0 144)
         table.old table.new out.old out.new result }
 {
-    let answer = probes::search_starts(counts, times, freqs, centers, Vec3 { x, y, z }, a, i, table);
+    let answer = probes::search_starts(
+        counts,
+        times,
+        freqs,
+        centers,
+        Vec3 { x, y, z },
+        a,
+        i,
+        table,
+    );
     if answer.refusal != 0 {
         return answer.refusal;
     }
