@@ -5,7 +5,7 @@
 mod fitting;
 
 ghost use Rattle.std.specs.Prelude.{◌≤◌};
-ghost use Rattle.io.specs.Counts.{IsPrefixLen};
+ghost use Rattle.std.specs.Counts.{IsPrefixLen};
 ghost use Rattle.command_words.specs.Words.{Few};
 
 use command_words::{Layout, Mast, Request};

@@ -1,7 +1,7 @@
 // What the command says on standard error: `report_text` makes the report's lines, and here they are written.
 #![tactic(auto)]
 
-ghost use Rattle.io.specs.Counts.{IsPrefixLen};
+ghost use Rattle.std.specs.Counts.{IsPrefixLen};
 
 use command::report::Biases;
 use frame::Vec3;

@@ -5,7 +5,7 @@
 pub mod say;
 
 ghost use Rattle.std.specs.Prelude.{◌≡◌, ◌≤◌, length};
-ghost use Rattle.io.specs.Counts.{IsPrefixLen};
+ghost use Rattle.std.specs.Counts.{IsPrefixLen};
 ghost use Rattle.command.specs.Gather.{arrays, Continues, Gathers};
 
 use command::gather;
