@@ -1,0 +1,10 @@
+use Rattle.float.specs.Ops.{rem_euclid_of}
+use Rattle.float.proofs.rem_euclid.Goals as goal
+
+pub returns-then-r : goal.returns-then-r
+unfolding rem_euclid_of
+returns-then-r c = simp c.if-r.true
+
+pub returns-else-r : goal.returns-else-r
+unfolding rem_euclid_of
+returns-else-r c = simp c.if-r.false
