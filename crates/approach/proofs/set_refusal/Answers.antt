@@ -1,0 +1,27 @@
+-- `set_refusal` meets its contract. Assumes nothing.
+use Rattle.approach.specs.Answers.{set_refusal_of}
+use Rattle.approach.proofs.set_refusal.Goals as goal
+
+pub returns-then-not-all_in_range : goal.returns-then-not-all_in_range
+unfolding set_refusal_of
+returns-then-not-all_in_range c = simp (← c.all_in_range.ensures, c.if-not-all_in_range.true)
+
+pub returns-then-not-sizes_agree : goal.returns-then-not-sizes_agree
+unfolding set_refusal_of
+returns-then-not-sizes_agree c =
+    simp (
+      ← c.all_in_range.ensures,
+      ← c.sizes_agree.ensures,
+      c.if-not-all_in_range.false,
+      c.if-not-sizes_agree.true,
+    )
+
+pub returns : goal.returns
+unfolding set_refusal_of
+returns c =
+    simp (
+      ← c.all_in_range.ensures,
+      ← c.sizes_agree.ensures,
+      c.if-not-all_in_range.false,
+      c.if-not-sizes_agree.false,
+    )

@@ -1,0 +1,18 @@
+-- `sample` meets its contract. Assumes nothing.
+use mathlib.Core.Path.{ap}
+use lib.IntN.{pos}
+use lib.ListN.{get_or}
+use Rattle.orbit.specs.Doppler.{frequency_of}
+use Rattle.approach.specs.Sums.{sample_of}
+use Rattle.approach.proofs.Tables.{held_moment}
+use Rattle.approach.proofs.sums.sample.Goals as goal
+
+pub shift_at-pred_f-requires : goal.shift_at-pred_f-requires
+shift_at-pred_f-requires c =
+    let p = c.requires in
+    let m = c.moment_at-t.ensures in
+    (p.0, (m.1, held_moment (get_or c.args.times.now c.args.n (pos 0)) m.0 p.1.2))
+
+pub returns : goal.returns
+unfolding sample_of
+returns c = simp (ap frequency_of c.shift_at-pred_f.ensures.is, c.moment_at-t.ensures.0)

@@ -1,0 +1,13 @@
+-- `samples` meets its contract. Assumes nothing.
+use Prim.Native.Nat.{◌-◌, ◌≤◌}
+use lib.ListN.{length}
+use Rattle.loops.proofs.Laws.{Left}
+use Rattle.approach.specs.Sums.{sample_of, samples_of}
+use Rattle.approach.proofs.sums.samples.Given as goal
+
+abbrev pub invariant-loop-n : goal.invariant-loop-n
+invariant-loop-n l =
+    (l.n ≤ length l.freqs) × Left l.n (length l.freqs) (sample_of l.v.station l.v.e l.dt l.times l.freqs) l.sum (samples_of l.v.station l.v.e l.dt l.times l.freqs l.rss)
+
+abbrev pub decreases-loop-n : goal.decreases-loop-n
+decreases-loop-n l = length l.freqs - l.n
