@@ -24,6 +24,7 @@ pub data Ended : Ending → Type 0 where
   by_convergence : Ended Converged
 
 pub rest : {A : Type 0} (g : Ending) (t b : A) → Ended g → while_running g t b ≡ b
+rest Running t b x = elim x [ ]
 rest (Refused k) t b by_refusal = refl
 rest Short t b by_shortness = refl
 rest Damped t b by_damping = refl

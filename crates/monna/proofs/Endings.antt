@@ -1,6 +1,5 @@
 -- Each ending of the calls, from the tests that lead there. Assumes nothing.
-use Rattle.std.proofs.Common.{◌≡◌, ℕ, ◌<◌, ◌≤◌, Bool, false, not, T, leb, List, ◌++◌, length, drop, sym, ◌∙◌, subst, leb→le, le-ltb, lt-ltb}
-use borrow.Author.Tests.{not-false}
+use Rattle.std.proofs.Common.{◌≡◌, ℕ, ◌<◌, ◌≤◌, Bool, true, T, leb, List, ◌++◌, length, drop, sym, ◌∙◌, subst, leb→le, le-ltb, lt-ltb}
 use lib.Ieee.{Float}
 use lib.Ieee.Fits.{and_l, and_r}
 use Rattle.refusal.specs.Numbers as refusal
@@ -8,9 +7,9 @@ use Rattle.monna.specs.Digits.{is_base, Base}
 use Rattle.monna.specs.Answers.{history_refusal, Differs}
 use Rattle.monna.specs.History.{differences_of}
 
-pub base_is : {p : ℕ} {b : Bool} → b ≡ is_base p → not b ≡ false → Base p
+pub base_is : {p : ℕ} {b : Bool} → b ≡ is_base p → b ≡ true → Base p
 base_is {p = p} {b = b} e h =
-    let t : T (is_base p) = subst T (sym (sym e ∙ not-false b h)) tt in
+    let t : T (is_base p) = subst T (sym (sym e ∙ h)) tt in
     record { least = leb→le 2 p (and_l (leb 2 p) (leb p 7) t); greatest = leb→le p 7 (and_r (leb 2 p) (leb p 7) t) }
 
 module _ (x o : List Float) where

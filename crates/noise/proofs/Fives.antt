@@ -1,12 +1,12 @@
 -- The noise of windows of five samples. Assumes nothing.
 use mathlib.Core.Path.{◌≡◌, sym, ap, ◌∙◌}
-use mathlib.Core.Bool.{Bool, true, false, not}
+use mathlib.Core.Bool.{Bool, true, false}
 use mathlib.Core.List.{List}
 use Prim.Native.Nat.{ℕ, ◌+◌, ◌-◌, ◌≤◌, ◌<◌}
 use lib.IntN.{ℤ, pos}
 use lib.Ieee.{Float, nan}
 use lib.ListN.{length, get_or}
-use borrow.Author.Tests.{not-true, not-false, lt-ltb, le-ltb}
+use borrow.Author.Tests.{lt-ltb, le-ltb}
 use Rattle.float.specs.Ops.{◌⊕◌, ◌⊗◌, ◌⊘◌, one}
 use Rattle.roots.specs.Root.{sqrt_of}
 use Rattle.loops.specs.Loop.{for}
@@ -22,23 +22,23 @@ use Rattle.noise.specs.declared.Sums.{Sums}
 -- ---- between two samples
 
 module _ (u v t e : ℤ) {a : Bool} (p : u ≡ t) (q : v ≡ e) (ea : a ≡ time_in_range u) where
-  pub first_out : not a ≡ true → nan ≡ between_of t e
+  pub first_out : a ≡ false → nan ≡ between_of t e
   unfolding between_of
-  first_out h = let s : time_in_range t ≡ false = ap time_in_range (sym p) ∙ sym ea ∙ not-true a h in simp s
+  first_out h = let s : time_in_range t ≡ false = ap time_in_range (sym p) ∙ sym ea ∙ h in simp s
 
-  pub second_out : not a ≡ false → {b : Bool} → b ≡ time_in_range v → not b ≡ true → nan ≡ between_of t e
+  pub second_out : a ≡ true → {b : Bool} → b ≡ time_in_range v → b ≡ false → nan ≡ between_of t e
   unfolding between_of
   second_out h {b} eb k =
-      let s : time_in_range t ≡ true = ap time_in_range (sym p) ∙ sym ea ∙ not-false a h in
-      let r : time_in_range e ≡ false = ap time_in_range (sym q) ∙ sym eb ∙ not-true b k in
+      let s : time_in_range t ≡ true = ap time_in_range (sym p) ∙ sym ea ∙ h in
+      let r : time_in_range e ≡ false = ap time_in_range (sym q) ∙ sym eb ∙ k in
       simp (s, r)
 
-  pub both_in : not a ≡ false → {b : Bool} → b ≡ time_in_range v → not b ≡ false → {m n : Instant} {r : Float} → m ≡ instant_at u → n ≡ instant_at v
+  pub both_in : a ≡ true → {b : Bool} → b ≡ time_in_range v → b ≡ true → {m n : Instant} {r : Float} → m ≡ instant_at u → n ≡ instant_at v
       → r ≡ tau_of (nanos_of m.secs m.nanos) (nanos_of n.secs n.nanos) → r ≡ between_of t e
   unfolding between_of
   both_in h {b} eb k em en er =
-      let s : time_in_range t ≡ true = ap time_in_range (sym p) ∙ sym ea ∙ not-false a h in
-      let w : time_in_range e ≡ true = ap time_in_range (sym q) ∙ sym eb ∙ not-false b k in
+      let s : time_in_range t ≡ true = ap time_in_range (sym p) ∙ sym ea ∙ h in
+      let w : time_in_range e ≡ true = ap time_in_range (sym q) ∙ sym eb ∙ k in
       rw (er, em, en, instant_counts u, instant_counts v, p, q, s, w)
 
 module _ (times : List ℤ) (k j : ℕ) where
@@ -57,15 +57,15 @@ module _ (times : List ℤ) (k j : ℕ) where
 -- ---- a window
 
 module _ (times : List ℤ) (freqs : List Float) (k : ℕ) (s : Sums) {p : Five} {a : Bool} (ep : p ≡ products_at times k) (ea : a ≡ apart_of p) where
-  pub like : not a ≡ true → s ≡ window_of times freqs k s
+  pub like : a ≡ false → s ≡ window_of times freqs k s
   unfolding window_of
-  like h = let t : apart_of (products_at times k) ≡ false = ap apart_of (sym ep) ∙ sym ea ∙ not-true a h in rw t
+  like h = let t : apart_of (products_at times k) ≡ false = ap apart_of (sym ep) ∙ sym ea ∙ h in rw t
 
-  pub unlike : not a ≡ false → {w f : Five} → w ≡ weights_of p → f ≡ frequencies_at freqs k → {d z : Float} → d ≡ difference_of w f → z ≡ weight_size w
+  pub unlike : a ≡ true → {w f : Five} → w ≡ weights_of p → f ≡ frequencies_at freqs k → {d z : Float} → d ≡ difference_of w f → z ≡ weight_size w
       → record { squares = s.squares ⊕ (d ⊘ z) ⊗ (d ⊘ z); windows = s.windows ⊕ one; at = s.at } ≡ window_of times freqs k s
   unfolding window_of with_noise noise_at
   unlike h ew ef ed ez =
-      let t : apart_of (products_at times k) ≡ true = ap apart_of (sym ep) ∙ sym ea ∙ not-false a h in
+      let t : apart_of (products_at times k) ≡ true = ap apart_of (sym ep) ∙ sym ea ∙ h in
       rw (t, ed, ez, ef, ew, ep)
 
 -- ---- a pass
@@ -83,11 +83,11 @@ module _ (times : List ℤ) (freqs : List Float) (n : ℕ) (s : Sums) where
 -- ---- all passes
 
 module _ (counts : List ℕ) (times : List ℤ) (freqs : List Float) {a : Bool} (ea : a ≡ sizes_agree counts (length times) (length freqs) (length counts)) where
-  pub disagree : not a ≡ true → nan ≡ estimate_of counts times freqs
+  pub disagree : a ≡ false → nan ≡ estimate_of counts times freqs
   unfolding estimate_of
-  disagree h = let t = sym ea ∙ not-true a h in rw t
+  disagree h = let t = sym ea ∙ h in rw t
 
-  pub agree : not a ≡ false → {s : Sums} {r : Float} → s ≡ for 0 (length counts) (with_pass counts times freqs) open_sums → r ≡ sqrt_of (s.squares ⊘ s.windows)
+  pub agree : a ≡ true → {s : Sums} {r : Float} → s ≡ for 0 (length counts) (with_pass counts times freqs) open_sums → r ≡ sqrt_of (s.squares ⊘ s.windows)
       → r ≡ estimate_of counts times freqs
   unfolding estimate_of
-  agree h es er = let t = sym ea ∙ not-false a h in rw (t, er, es)
+  agree h es er = let t = sym ea ∙ h in rw (t, er, es)

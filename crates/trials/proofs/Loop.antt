@@ -7,19 +7,15 @@ use Prim.Native.Nat.{ℕ, ◌+◌, ◌<◌, ◌≤◌}
 use native.Mathlib.Omega.{arith}
 use lib.ListN.{length, set, length-set}
 use lib.Ieee.{Float, lt}
-use denote.Enum.Declared.{tag_of}
-use types.Run.{OneOf, miss}
 use Rattle.float.specs.Ops.{bits}
 use Rattle.normal.specs.Step.{Outcome, next, refused}
 use Rattle.normal.specs.Answers.{outcome}
 use Rattle.normal.specs.declared.Step.{Step}
 use Rattle.normal.specs.declared.Step.TheVariants.{Next, Short, Singular, Refused}
-use Rattle.normal.specs.contracts.Step as Steps
 use Rattle.book.specs.Book.{small_step_bits, Search, Book, After, compared, arrival, onward, open_book, gone_to, noted, trial, following, book}
 use Rattle.book.specs.declared.Ending.{Ending}
 use Rattle.book.specs.declared.Ending.TheVariants as Ends
 use Rattle.book.specs.declared.Ending.TheVariants.{Running}
-use Rattle.book.specs.contracts.Ending as Endings
 use Rattle.book.proofs.Books.{Ended, by_refusal, by_shortness, by_damping, by_convergence, trial_is, following_is, following_rests, book_next, stays_to, counted}
 use Rattle.trials.specs.Trials.{state_search, state_after, Arrives, RunsTo}
 use Rattle.trials.specs.declared.State.{State}
@@ -37,20 +33,21 @@ pub data Stops : Step → Type 0 where
   at_refusal : {k : ℕ} → Stops (Refused k)
 
 -- whichever arm of a `let .. else` is left
-pub stops_of : (p : Step) → OneOf (1 ∷ 2 ∷ 3 ∷ []) (tag_of Steps.the_type p) → Stops p
-stops_of (Next size) h = absurd (miss (1 ∷ 2 ∷ 3 ∷ []) 0 tt h)
+pub stops_of : (p : Step) → ((size : Float) → p ≡ Next size → ⊥) → Stops p
+stops_of (Next size) h = absurd (h size refl)
 stops_of Short h = at_short
 stops_of Singular h = at_pivot
 stops_of (Refused k) h = at_refusal
 
-pub ended_of : (g : Ending) → OneOf (1 ∷ 2 ∷ 3 ∷ 4 ∷ []) (tag_of Endings.the_type g) → Ended g
-ended_of Running h = absurd (miss (1 ∷ 2 ∷ 3 ∷ 4 ∷ []) 0 tt h)
+pub ended_of : (g : Ending) → (g ≡ Running → ⊥) → Ended g
+ended_of Running h = absurd (h refl)
 ended_of (Ends.Refused k) h = by_refusal
 ended_of Ends.Short h = by_shortness
 ended_of Ends.Damped h = by_damping
 ended_of Ends.Converged h = by_convergence
 
 stopped : (p : Step) (x : List Float) (s : Search) → Stops p → Ended (arrival s (outcome p x)).ended
+stopped (Next _) x s h = elim h [ ]
 stopped Short x s at_short = by_shortness
 stopped Singular x s at_pivot = by_refusal
 stopped (Refused k) x s at_refusal = by_refusal

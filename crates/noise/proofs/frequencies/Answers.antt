@@ -1,0 +1,4 @@
+use Rattle.noise.proofs.frequencies.Goals as goal
+
+pub returns : goal.returns
+returns c = simp (c.number_at.ensures, c.number_at-2.ensures, c.number_at-3.ensures, c.number_at-4.ensures, c.number_at-5.ensures)

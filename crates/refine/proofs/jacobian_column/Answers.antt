@@ -1,0 +1,39 @@
+-- `jacobian_column` meets its contract. Assumes nothing.
+use mathlib.Core.Path.{sym}
+use native.Mathlib.Omega.{arith}
+use lib.Seq.{length-take-le}
+use Rattle.residuals.specs.Residuals.{residuals}
+use Rattle.refine.specs.Jacobian.{eps_of}
+use Rattle.refine.proofs.Columns.{column_far, column_put}
+use Rattle.refine.proofs.jacobian_column.Goals as goal
+
+pub perturbed-params-requires : goal.perturbed-params-requires
+perturbed-params-requires c =
+    let pre = c.requires in
+    omega (arith, pre.1.narrow, pre.3)
+
+pub residuals_into-refusal-requires : goal.residuals_into-refusal-requires
+residuals_into-refusal-requires c =
+    let pre = c.requires in
+    (pre.0, omega (arith, pre.0.few, pre.0.small))
+
+pub returns-then-refusal-ne0 : goal.returns-then-refusal-ne0
+returns-then-refusal-ne0 c =
+    column_far (eps_of _) (residuals _ _ _) _ _ _ _ _ _ _ _ c.param_eps-eps.ensures c.perturbed-params.ensures c.residuals_into-refusal.result _ _ c.if-refusal-ne0.true c.residuals_into-refusal.ensures
+
+pub slice_bounds-column-end : goal.slice_bounds-column-end
+slice_bounds-column-end c = omega (arith, c.requires.1.few)
+
+pub slice_bounds-put_column-end : goal.slice_bounds-put_column-end
+slice_bounds-put_column-end c = sym (length-take-le _ _ (omega (arith, c.requires.1.few)))
+
+pub put_column-requires : goal.put_column-requires
+put_column-requires c =
+    let pre = c.requires in
+    (pre.1, length-take-le _ _ (omega (arith, pre.1.few)), pre.3)
+
+pub returns : goal.returns
+returns c =
+    let pre = c.requires in
+    column_put (eps_of _) (residuals _ _ _) _ _ _ _ _ _ _ _ c.param_eps-eps.ensures c.perturbed-params.ensures c.residuals_into-refusal.result _ _ _ c.if-refusal-ne0.false
+    c.residuals_into-refusal.ensures pre.2 c.put_column.ensures

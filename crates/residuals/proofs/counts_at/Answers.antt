@@ -1,0 +1,17 @@
+-- `counts_at` meets its contract: what is written, then the counts still to come, are all. Assumes nothing.
+use mathlib.Core.Path.{refl}
+use Prim.Native.Nat.{◌-◌}
+use native.Mathlib.Omega.{arith}
+use borrow.Author.Rules.{rules}
+use Rattle.residuals.proofs.Samples.{none_counted, one_counted, all_counted}
+use Rattle.residuals.proofs.counts_at.Goals as goal
+
+pub loop-k-init : goal.loop-k-init
+loop-k-init c = (search rules, refl, none_counted _ _)
+
+pub loop-k-preserved : goal.loop-k-preserved
+loop-k-preserved c =
+    (search rules, search rules, one_counted c.loop-k-test.true (omega (arith, c.loop-k.invariant.1, c.loop-k-test.true, c.requires.1)) c.loop-k.invariant.2 _ c.put_count.ensures)
+
+pub returns : goal.returns
+returns c = all_counted c.loop-k.invariant.0 c.loop-k-test.false c.loop-k.invariant.2

@@ -1,0 +1,13 @@
+-- `dt_of` meets its contract. Assumes nothing.
+use mathlib.Core.Path.{refl}
+use Rattle.approach.specs.Sums.{dt_of}
+use Rattle.approach.proofs.Tables.{no_window}
+use Rattle.start.proofs.dt_of.Goals as goal
+
+pub pred_pca_time-pred-requires : goal.pred_pca_time-pred-requires
+pred_pca_time-pred-requires c = let q = c.requires in (q.0, q.1, no_window _ refl _ _ _)
+
+pub returns : goal.returns
+unfolding dt_of
+returns c =
+    simp (c.tau_millis.ensures, c.obs_pca_time-obs.ensures.0, c.pred_pca_time-pred.ensures.0)
