@@ -6,7 +6,7 @@ use Prim.Native.Nat.{ℕ, zero, suc, ◌+◌, ◌≤◌, ◌<◌}
 use native.Mathlib.Omega.{arith}
 use lib.Dec.{leb, ltb, eqb}
 use lib.ListN.{length, get_or, take, drop, take-append-drop}
-use lib.Ieee.{Float, nan, is_nan}
+use lib.Ieee.{Float, is_nan}
 use borrow.Author.Tests.{ne_eqb, eqb-true, le-leb, lt-leb, leb-true, le-ltb, ltb-true, ltb-false, not-false}
 use Rattle.laws.proofs.Tests.{and_true, or_false}
 use Rattle.text.specs.Text.{bytes, code}
