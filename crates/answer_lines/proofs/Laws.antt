@@ -1,6 +1,6 @@
 -- Walking a line, and cutting parts out of it. Assumes nothing.
 use mathlib.Core.Path.{◌≡◌, refl, sym, ap, ◌∙◌, subst}
-use mathlib.Core.Bool.{Bool, true, false, not, cond}
+use mathlib.Core.Bool.{Bool, true, false, cond}
 use mathlib.Core.List.{List, ◌∷◌}
 use Prim.Native.Nat.{ℕ, suc, ◌+◌, ◌-◌, ◌*◌, ◌/◌, ◌≤◌, ◌<◌}
 use native.Mathlib.Nat.{le_of_eq}
@@ -211,6 +211,6 @@ set_read x {counts = counts} {centers = centers} {freqs = freqs} {times = times}
 -- ---- a table of words
 
 -- a line whose word was found in the table, whatever is said of the line then
-pub known : (table line name : List ℕ) (found r : Bool) → name ≡ line_word line → found ≡ occurs name table → not found ≡ false → OnlyWords table line r
+pub known : (table line name : List ℕ) (found r : Bool) → name ≡ line_word line → found ≡ occurs name table → found ≡ true → OnlyWords table line r
 known table line name true r p e h = record { other = λ k. cc }
 known table line name false r p e h = record { other = λ k. cc }

@@ -1,4 +1,4 @@
--- The meaning of `hex_value`: it reads back the digits that `io::hex` writes. Assumes nothing.
+-- The meaning of `hex_value`: it reads back the hexadecimal digits of a number. Assumes nothing.
 use mathlib.Core.Path.{◌≡◌, refl, sym, ap, ◌∙◌, subst}
 use Prim.Native.Nat.{ℕ, zero, suc, ◌+◌, ◌*◌, ◌/◌, ◌%◌, ◌^◌, ◌≤◌, ◌<◌}
 use native.Mathlib.Nat.{pow-suc}
@@ -6,9 +6,17 @@ use native.Mathlib.Omega.{arith}
 use mathlib.Core.Bool.{Bool, true, false, not, cond}
 use mathlib.Core.List.{List, [], ◌∷◌, ◌++◌}
 use lib.Dec.{T, ltb, ltb→lt, nltb→le}
-use Rattle.io.specs.Digits.{hex_digit_ascii, last_digits}
 use Rattle.answer_lines.specs.Word.{hex_digit, hex_value}
 use Rattle.answer_lines.proofs.Digits.{is_digit_lem, is_letter_lem}
+
+-- a digit below 16 as text: `0` to `9`, then `a` to `f`
+abbrev pub hex_digit_ascii : ℕ → ℕ
+hex_digit_ascii d = cond (ltb d 10) (48 + d) (87 + d)
+
+-- the last k digits of n in base b, the most significant first
+abbrev pub last_digits : ℕ → ℕ → ℕ → List ℕ
+last_digits b zero n = []
+last_digits b (suc k) n = last_digits b k (n / b) ++ (hex_digit_ascii (n % b) ∷ [])
 
 value_last : (v : ℕ) (cs : List ℕ) (c : ℕ) → hex_value v (cs ++ (c ∷ [])) ≡ hex_value v cs * 16 + hex_digit c
 unfolding hex_value

@@ -1,22 +1,20 @@
 // The checking program: `check_pass` and `check_pass_refused` are this on two inputs.
-use libc::{STDERR_FILENO, STDOUT_FILENO};
 use standard_input::Input;
+use std::io;
+use std::io::{Stderr, Stdin, Stdout};
 
-fn write_line(bytes: &[u8]) {
+fn write_line(stdout: Stdout, bytes: &[u8]) -> io::Result<()> {
     let mut out = [0u8; 32800];
     let n = super::check_line(bytes, &mut out);
-    io::write_all(STDOUT_FILENO, &out[..n]);
+    stdout.write_all(&out[..n])
 }
 
 // Reads standard input, its first 32 KiB, and writes its line. An input that cannot be read is told on standard error, and there is no line.
-pub fn run() {
+// Fails where the line or that cannot be written.
+pub fn run(stdin: Stdin, stdout: Stdout, stderr: Stderr) -> io::Result<()> {
     let mut bytes = [0u8; 32768];
-    let Input::Bytes(n) = standard_input::read(&mut bytes) else {
-        io::write_all(
-            STDERR_FILENO,
-            b"check_pass: standard input cannot be read\n",
-        );
-        return;
+    let Input::Bytes(n) = standard_input::read(stdin, &mut bytes) else {
+        return stderr.write_all(b"check_pass: standard input cannot be read\n");
     };
-    write_line(&bytes[..n]);
+    write_line(stdout, &bytes[..n])
 }

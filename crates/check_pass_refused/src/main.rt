@@ -1,6 +1,8 @@
 // The checking program on a file that is refused.
 #![tactic(auto)]
 
-fn main() {
-    check_line::program::run();
+use std::io;
+
+fn main(rt: HostRuntime) -> io::Result<()> {
+    check_line::program::run(rt.stdin(), rt.stdout(), rt.stderr())
 }

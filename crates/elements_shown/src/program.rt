@@ -1,22 +1,20 @@
 // The program `read_lines`.
-use libc::{STDERR_FILENO, STDOUT_FILENO};
 use standard_input::Input;
+use std::io;
+use std::io::{Stderr, Stdin, Stdout};
 
-fn write_line(input: &[u8]) {
+fn write_line(stdout: Stdout, input: &[u8]) -> io::Result<()> {
     let mut out = [0u8; 128];
     let n = super::show_elements(input, &mut out);
-    io::write_all(STDOUT_FILENO, &out[..n]);
+    stdout.write_all(&out[..n])
 }
 
 // Reads standard input, its first 256 bytes, and writes its line. An input that cannot be read is told on standard error, and there is no line.
-pub fn run() {
+// Fails where the line or that cannot be written.
+pub fn run(stdin: Stdin, stdout: Stdout, stderr: Stderr) -> io::Result<()> {
     let mut bytes = [0u8; 256];
-    let Input::Bytes(n) = standard_input::read(&mut bytes) else {
-        io::write_all(
-            STDERR_FILENO,
-            b"read-lines: standard input cannot be read\n",
-        );
-        return;
+    let Input::Bytes(n) = standard_input::read(stdin, &mut bytes) else {
+        return stderr.write_all(b"read-lines: standard input cannot be read\n");
     };
-    write_line(&bytes[..n]);
+    write_line(stdout, &bytes[..n])
 }

@@ -9,26 +9,28 @@ use command::report::Biases;
 use command_words::Layout;
 use determination::Determination;
 use frame::Vec3;
-use libc::STDOUT_FILENO;
 use solution::SolvedOrbit;
+use std::env::Env;
+use std::io;
+use std::io::{Stderr, Stdout};
 
 // Which of orbit and name cannot be printed: an orbit that can be under another name is not at fault.
-fn unprintable(orbit: SolvedOrbit) {
+fn unprintable(stderr: Stderr, orbit: SolvedOrbit) {
     let mut text = [0u8; 256];
     let c = tle::format_tle_catalog(b"HERD-1", orbit, &mut text);
     if c.refusal == 0 {
-        messages::name_unprintable();
+        messages::name_unprintable(stderr);
         return;
     }
-    messages::orbit_unprintable();
+    messages::orbit_unprintable(stderr);
 }
 
-fn lines_refused(k: u32, orbit: SolvedOrbit) {
+fn lines_refused(stderr: Stderr, k: u32, orbit: SolvedOrbit) {
     if k == refusal::UNPRINTABLE {
-        unprintable(orbit);
+        unprintable(stderr, orbit);
         return;
     }
-    messages::refusal(k);
+    messages::refusal(stderr, k);
 }
 
 // What is off in recorded frequencies is off the other way in mirrored ones.
@@ -58,6 +60,8 @@ fn word_of(i: usize, first: usize) -> usize {
 
 // The biases of each file, by time.
 fn biases(
+    rt: &impl Env,
+    stderr: Stderr,
     layout: Layout,
     order: &[usize],
     counts: &[u32],
@@ -70,30 +74,37 @@ fn biases(
     let first = layout.first;
     for p in 0..order.len() {
         let b = report::biases_of(counts, p, dts, dfs, df1s, df2s);
-        messages::pass(word_of(order[p], first), turned(received, b));
+        messages::pass(rt, stderr, word_of(order[p], first), turned(received, b));
     }
 }
 
 // With over 16 passes nothing is told; the fit takes no more.
-fn tell_noise(rms: f64, counts: &[u32], times: &[i64], freqs: &[f64]) {
+fn tell_noise(stderr: Stderr, rms: f64, counts: &[u32], times: &[i64], freqs: &[f64]) {
     if 16 < counts.len() {
         return;
     }
     let full = arguments::non_empty(counts);
-    messages::noise(rms, noise::estimate(counts, times, freqs), full.passes);
+    messages::noise(
+        stderr,
+        rms,
+        noise::estimate(counts, times, freqs),
+        full.passes,
+    );
 }
 
 // Why there is no fit; `nan` is the first file with a frequency that is not a number.
-fn fit_refused(k: u32, first: usize, nan: usize) {
+fn fit_refused(rt: &impl Env, stderr: Stderr, k: u32, first: usize, nan: usize) {
     if k == refusal::NAN_FREQUENCY {
-        messages::file_refusal(word_of(nan, first), k);
+        messages::file_refusal(rt, stderr, word_of(nan, first), k);
         return;
     }
-    messages::refusal(k);
+    messages::refusal(stderr, k);
 }
 
 // The report of an accepted fit, or why there is none.
 fn report(
+    rt: &impl Env,
+    stderr: Stderr,
     layout: Layout,
     nan: usize,
     order: &[usize],
@@ -110,26 +121,29 @@ fn report(
 ) {
     let f = d.fit;
     if f.refusal != 0 {
-        fit_refused(f.refusal, layout.first, nan);
+        fit_refused(rt, stderr, f.refusal, layout.first, nan);
         return;
     }
     let orbit = f.orbit;
     let lines = d.lines;
     if lines.refusal != 0 {
-        lines_refused(lines.refusal, orbit);
+        lines_refused(stderr, lines.refusal, orbit);
         return;
     }
     let rms = report::rms(
         counts, times, freqs, centers, rec_ecef, orbit, dts, dfs, df1s, df2s,
     );
-    messages::fit(f.trials, f.best, rms, times.len(), counts.len());
-    tell_noise(rms, counts, times, freqs);
-    biases(layout, order, counts, dts, dfs, df1s, df2s);
+    messages::fit(stderr, f.trials, f.best, rms, times.len(), counts.len());
+    tell_noise(stderr, rms, counts, times, freqs);
+    biases(rt, stderr, layout, order, counts, dts, dfs, df1s, df2s);
 }
 
-// Fits the set, writes what `outcome` says to standard output, and tells of it. Callers meet the `requires`, here and of `fit`, by
-// proof.
+// Fits the set, writes what `outcome` says to standard output, and tells of it; fails where it cannot be written. Callers meet the
+// `requires`, here and of `fit`, by proof.
 fn solve(
+    rt: &impl Env,
+    stdout: Stdout,
+    stderr: Stderr,
     layout: Layout,
     nan: usize,
     counts: &[u32],
@@ -144,7 +158,7 @@ fn solve(
     times_out: &mut [i64],
     freqs_out: &mut [f64],
     centers_out: &mut [f64],
-)
+) -> io::Result<()>
     requires { Sizes counts.now (length times.now) (length freqs.old) (length centers.now)
         × Alike (length counts.now) (length order.old) (length counts_out.old) (length centers_out.old) (length counts.now)
         × Alike (length times.now) (length times.now) (length times.now) (length times_out.old) (length freqs_out.old) }
@@ -181,8 +195,10 @@ fn solve(
     );
     let lines = d.lines;
     let n = lines.length;
-    io::write_all(STDOUT_FILENO, &text[..n]);
+    let written = stdout.write_all(&text[..n]);
     report(
+        rt,
+        stderr,
         layout,
         nan,
         order,
@@ -197,9 +213,13 @@ fn solve(
         &df1s,
         &df2s,
     );
+    written
 }
 
 fn fit(
+    rt: &impl Env,
+    stdout: Stdout,
+    stderr: Stderr,
     layout: Layout,
     nan: usize,
     counts: &[u32],
@@ -209,7 +229,7 @@ fn fit(
     rec_ecef: Vec3,
     initial_i: f64,
     name: &[u8],
-)
+) -> io::Result<()>
     requires { Sizes counts.now (length times.now) (length freqs.old) (length centers.now) }
 {
     let p = counts.len();
@@ -220,6 +240,9 @@ fn fit(
     let mut freqs_out = [0.0f64; 4096];
     let mut centers_out = [0.0f64; 16];
     solve(
+        rt,
+        stdout,
+        stderr,
         layout,
         nan,
         counts,
@@ -234,23 +257,33 @@ fn fit(
         &mut times_out[..s],
         &mut freqs_out[..s],
         &mut centers_out[..p],
-    );
+    )
 }
 
 // Each file with the samples of one before it.
-fn tell_twins(first: usize, counts: &[u32], times: &[i64], freqs: &[f64])
+fn tell_twins(
+    rt: &impl Env,
+    stderr: Stderr,
+    first: usize,
+    counts: &[u32],
+    times: &[i64],
+    freqs: &[f64],
+)
     requires { Whole counts.now (length times.now) × Whole counts.now (length freqs.now) }
 {
     for q in 0..counts.len() {
         let p = pass_checks::twin(counts, times, freqs, q);
         if p < q {
-            messages::twice(word_of(q, first), word_of(p, first));
+            messages::twice(rt, stderr, word_of(q, first), word_of(p, first));
         }
     }
 }
 
 // Tells what is odd in the set, and fits it.
 pub fn check_and_fit(
+    rt: &impl Env,
+    stdout: Stdout,
+    stderr: Stderr,
     layout: Layout,
     counts: &[u32],
     times: &[i64],
@@ -259,12 +292,12 @@ pub fn check_and_fit(
     rec_ecef: Vec3,
     initial_i: f64,
     name: &[u8],
-)
+) -> io::Result<()>
     requires { Sizes counts.now (length times.now) (length freqs.old) (length centers.now) }
 {
-    tell_twins(layout.first, counts, times, freqs);
+    tell_twins(rt, stderr, layout.first, counts, times, freqs);
     let nan = pass_checks::nan_pass(counts, freqs);
     fit(
-        layout, nan, counts, times, freqs, centers, rec_ecef, initial_i, name,
-    );
+        rt, stdout, stderr, layout, nan, counts, times, freqs, centers, rec_ecef, initial_i, name,
+    )
 }

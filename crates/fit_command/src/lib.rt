@@ -5,14 +5,25 @@
 mod fitting;
 
 ghost use Rattle.std.specs.Prelude.{◌≤◌};
-ghost use Rattle.io.specs.Counts.{IsPrefixLen};
+ghost use Rattle.std.specs.Counts.{IsPrefixLen};
 ghost use Rattle.command_words.specs.Words.{Few};
 
 use command_words::{Layout, Mast, Request};
 use frame::Vec3;
+use std::env::{Env, FillError};
+use std::io;
+use std::io::{Stderr, Stdout};
+use std::rt::Files;
 
 // Gathers the files and fits.
-fn fit_files(layout: Layout, rec_ecef: Vec3, initial_i: f64)
+fn fit_files<R: Files + Env>(
+    rt: &R,
+    stdout: Stdout,
+    stderr: Stderr,
+    layout: Layout,
+    rec_ecef: Vec3,
+    initial_i: f64,
+) -> io::Result<()>
     requires { Few layout }
 {
     let first = layout.first;
@@ -23,6 +34,8 @@ fn fit_files(layout: Layout, rec_ecef: Vec3, initial_i: f64)
     let mut centers = [0.0f64; 16];
     let mut name = [0u8; 256];
     let g = pass_files::gather_files(
+        rt,
+        stderr,
         first,
         n,
         &mut counts,
@@ -32,16 +45,19 @@ fn fit_files(layout: Layout, rec_ecef: Vec3, initial_i: f64)
         &mut name,
     );
     if g.failed {
-        return;
+        return Ok(());
     }
     let p = g.passes;
     let s = g.samples;
     let kept = g.name;
     let size = kept.size;
     if size == 0 {
-        messages::empty_name();
+        messages::empty_name(stderr);
     }
     fitting::check_and_fit(
+        rt,
+        stdout,
+        stderr,
         layout,
         &counts[..p],
         &times[..s],
@@ -50,64 +66,73 @@ fn fit_files(layout: Layout, rec_ecef: Vec3, initial_i: f64)
         rec_ecef,
         initial_i,
         &name[..size],
-    );
+    )
 }
 
 // Word i into the first places of out.
-fn word(i: usize, out: &mut [u8]) -> usize
+fn word(rt: &impl Env, i: usize, out: &mut [u8]) -> usize
     ensures { IsPrefixLen result out.new }
 {
-    let n = os::arg(i, out);
-    if os::errno() != 0 {
-        return 0;
+    match rt.arg(i, out) {
+        Ok(n) => n,
+        Err(_) => 0,
     }
-    n
 }
 
 // The same of the word that may be a position line; of one that is too long, as much as finds room: more than any number or position line that
 // is taken has.
-fn first_word(i: usize, out: &mut [u8]) -> usize
+fn first_word(rt: &impl Env, i: usize, out: &mut [u8]) -> usize
     ensures { IsPrefixLen result out.new }
 {
-    let n = os::arg(i, out);
-    let error = os::errno();
-    if error == libc::ENAMETOOLONG {
-        return out.len();
+    match rt.arg(i, out) {
+        Ok(n) => n,
+        Err(FillError::TooLong) => out.len(),
+        Err(FillError::NotPresent) => 0,
     }
-    if error != 0 {
-        return 0;
-    }
-    n
 }
 
 // The mast, then the files.
-fn fit_mast(m: Mast, layout: Layout)
+fn fit_mast<R: Files + Env>(
+    rt: &R,
+    stdout: Stdout,
+    stderr: Stderr,
+    m: Mast,
+    layout: Layout,
+) -> io::Result<()>
     requires { Few layout }
 {
     match m {
         Mast::At(rec_ecef, initial_i) => {
-            messages::position(rec_ecef);
-            fit_files(layout, rec_ecef, initial_i);
+            messages::position(stderr, rec_ecef);
+            return fit_files(rt, stdout, stderr, layout, rec_ecef, initial_i);
         }
-        Mast::NoNumber(k) => messages::no_number(k),
-        Mast::LongNumber(k) => messages::long_number(k),
-        Mast::NoPlace(k) => messages::no_place(k),
+        Mast::NoNumber(k) => messages::no_number(stderr, k),
+        Mast::LongNumber(k) => messages::long_number(stderr, k),
+        Mast::NoPlace(k) => messages::no_place(stderr, k),
     }
+    Ok(())
 }
 
 // Of so many words, the program's name among them and `--as-received` not, of which the mast's first is word k. A position line has 256 bytes at
 // most, and a line end.
-fn words_from(k: usize, received: bool, count: usize)
+fn words_from<R: Files + Env>(
+    rt: &R,
+    stdout: Stdout,
+    stderr: Stderr,
+    k: usize,
+    received: bool,
+    count: usize,
+) -> io::Result<()>
     requires { k ≤ 2 }
 {
     let mut x = [0u8; 259];
     let mut y = [0u8; 64];
     let mut z = [0u8; 64];
     let mut i = [0u8; 64];
-    let nx = first_word(k, &mut x);
-    let ny = word(k + 1, &mut y);
-    let nz = word(k + 2, &mut z);
-    let ni = word(k + 3, &mut i);
+    let nx = first_word(rt, k, &mut x);
+    let ny = word(rt, k + 1, &mut y);
+    let nz = word(rt, k + 2, &mut z);
+    let ni = word(rt, k + 3, &mut i);
     let request = command_words::request_of(
         received,
         count,
@@ -117,30 +142,42 @@ fn words_from(k: usize, received: bool, count: usize)
         &i[..ni],
     );
     match request {
-        Request::TooFew => messages::usage(),
-        Request::TooMany => messages::too_many(),
-        Request::Fit(m, layout) => fit_mast(m, layout),
+        Request::TooFew => messages::usage(stderr),
+        Request::TooMany => messages::too_many(stderr),
+        Request::Fit(m, layout) => return fit_mast(rt, stdout, stderr, m, layout),
     }
+    Ok(())
 }
 
 // Whether the first word says that frequencies are as received.
-fn as_received() -> bool {
+fn as_received(rt: &impl Env) -> bool {
     let mut w = [0u8; 64];
-    let n = word(1, &mut w);
+    let n = word(rt, 1, &mut w);
     command_words::is_as_received(&w[..n])
 }
 
-pub fn run() {
-    let count = os::arg_count();
+// How many words there are, the program's name among them.
+fn word_count(rt: &impl Env) -> usize {
+    let mut start = [0u8; 1];
+    for i in 0..usize::MAX {
+        if let Err(FillError::NotPresent) = rt.arg(i, &mut start) {
+            return i;
+        }
+    }
+    usize::MAX
+}
+
+// Fails where the lines cannot be written to standard output.
+pub fn run<R: Files + Env>(rt: &R, stdout: Stdout, stderr: Stderr) -> io::Result<()> {
+    let count = word_count(rt);
     if count == 0 {
-        messages::usage();
-        return;
+        messages::usage(stderr);
+        return Ok(());
     }
-    if as_received() {
-        messages::received();
-        words_from(2, true, count - 1);
-        return;
+    if as_received(rt) {
+        messages::received(stderr);
+        return words_from(rt, stdout, stderr, 2, true, count - 1);
     }
-    messages::as_predicted();
-    words_from(1, false, count);
+    messages::as_predicted(stderr);
+    words_from(rt, stdout, stderr, 1, false, count)
 }

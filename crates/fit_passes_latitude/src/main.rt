@@ -1,6 +1,8 @@
 // See `fit_command`.
 #![tactic(auto)]
 
-fn main() {
-    fit_command::run();
+use std::io;
+
+fn main(rt: HostRuntime) -> io::Result<()> {
+    fit_command::run(&rt, rt.stdout(), rt.stderr())
 }

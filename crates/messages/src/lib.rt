@@ -1,113 +1,136 @@
 // What the command says on standard error: `report_text` makes the report's lines, and here they are written.
 #![tactic(auto)]
 
-ghost use Rattle.io.specs.Counts.{IsPrefixLen};
+ghost use Rattle.std.specs.Counts.{IsPrefixLen};
 
 use command::report::Biases;
 use frame::Vec3;
 use pass_files::say::{flush, write};
 use report_text::{fitted, refused};
+use std::env::Env;
+use std::io::Stderr;
 
-pub fn usage() {
-    write(b"usage: fit-passes [--as-received] X Y Z INCLINATION FILE..\n");
-    write(b"       fit-passes [--as-received] LAT,LON,HEIGHT INCLINATION FILE..\n");
+pub fn usage(stderr: Stderr) {
     write(
+        stderr,
+        b"usage: fit-passes [--as-received] X Y Z INCLINATION FILE..\n",
+    );
+    write(
+        stderr,
+        b"       fit-passes [--as-received] LAT,LON,HEIGHT INCLINATION FILE..\n",
+    );
+    write(
+        stderr,
         b"X Y Z: the mast's Earth-fixed position in metres; LAT,LON,HEIGHT: the same in degrees and metres above the ellipsoid of WGS 84, without blanks\n",
     );
-    write(b"INCLINATION: a first guess in degrees; FILE..: 1 to 16 pass files\n");
     write(
+        stderr,
+        b"INCLINATION: a first guess in degrees; FILE..: 1 to 16 pass files\n",
+    );
+    write(
+        stderr,
         b"--as-received: the frequencies fall as the satellite goes by, as a receiver hears them\n",
     );
 }
 
-pub fn too_many() {
-    write(b"fit_passes: more than 16 files\n");
+pub fn too_many(stderr: Stderr) {
+    write(stderr, b"fit_passes: more than 16 files\n");
 }
 
-pub fn received() {
+pub fn received(stderr: Stderr) {
     write(
+        stderr,
         b"frequencies as received, falling: each is mirrored at its file's centre (--as-received)\n",
     );
 }
 
-pub fn as_predicted() {
-    write(b"frequencies as the fit predicts them, rising; give --as-received first if they fall\n");
+pub fn as_predicted(stderr: Stderr) {
+    write(
+        stderr,
+        b"frequencies as the fit predicts them, rising; give --as-received first if they fall\n",
+    );
 }
 
 // A mast that is not near the ground.
-pub fn position(v: Vec3) {
+pub fn position(stderr: Stderr, v: Vec3) {
     if command_words::is_off_ground(v) {
         write(
+            stderr,
             b"warning: the position is less than 6300 km or more than 6500 km from the Earth's centre (latitude and longitude? write LAT,LON,HEIGHT in one word)\n",
         );
     }
 }
 
-pub fn empty_name() {
-    write(b"warning: the name is empty\n");
+pub fn empty_name(stderr: Stderr) {
+    write(stderr, b"warning: the name is empty\n");
 }
 
-fn word_name(k: usize) {
+fn word_name(stderr: Stderr, k: usize) {
     match k {
-        1 => write(b"X"),
-        2 => write(b"Y"),
-        3 => write(b"Z"),
-        _ => write(b"INCLINATION"),
+        1 => write(stderr, b"X"),
+        2 => write(stderr, b"Y"),
+        3 => write(stderr, b"Z"),
+        _ => write(stderr, b"INCLINATION"),
     }
 }
 
 // A message about one of the four numbers.
-fn word(k: usize, what: &[u8]) {
-    write(b"fit_passes: ");
-    word_name(k);
-    write(b" ");
-    write(what);
-    write(b"\n");
+fn word(stderr: Stderr, k: usize, what: &[u8]) {
+    write(stderr, b"fit_passes: ");
+    word_name(stderr, k);
+    write(stderr, b" ");
+    write(stderr, what);
+    write(stderr, b"\n");
 }
 
-pub fn no_number(k: usize) {
-    word(k, b"is not a number");
+pub fn no_number(stderr: Stderr, k: usize) {
+    word(stderr, k, b"is not a number");
 }
 
-pub fn long_number(k: usize) {
+pub fn long_number(stderr: Stderr, k: usize) {
     word(
+        stderr,
         k,
         b"has more than 19 digits, or an exponent outside -30 to 30",
     );
 }
 
 // A position line's refusal.
-pub fn no_place(k: u32) {
+pub fn no_place(stderr: Stderr, k: u32) {
     let mut text = [0u8; 256];
     let n = refused::file_refusal(b"fit_passes: LAT,LON,HEIGHT", 0, k, &mut text, 0);
-    flush(&text, n);
+    flush(stderr, &text, n);
 }
 
-pub fn refusal(k: u32) {
+pub fn refusal(stderr: Stderr, k: u32) {
     let mut text = [0u8; 256];
     let n = refused::refusal(k, &mut text, 0);
-    flush(&text, n);
+    flush(stderr, &text, n);
 }
 
-pub fn name_unprintable() {
-    write(b"fit_passes: refusal 11: the name is over 24 bytes or has a byte outside 32 to 126\n");
-}
-
-pub fn orbit_unprintable() {
+pub fn name_unprintable(stderr: Stderr) {
     write(
+        stderr,
+        b"fit_passes: refusal 11: the name is over 24 bytes or has a byte outside 32 to 126\n",
+    );
+}
+
+pub fn orbit_unprintable(stderr: Stderr) {
+    write(
+        stderr,
         b"fit_passes: refusal 11: the orbit cannot be printed: a number is not finite, or the radius is outside 6500 to 20000 km\n",
     );
 }
 
 // The whole fit.
-pub fn fit(trials: usize, best: f64, rms: f64, samples: usize, passes: usize) {
+pub fn fit(stderr: Stderr, trials: usize, best: f64, rms: f64, samples: usize, passes: usize) {
     let mut text = [0u8; 512];
     let n = fitted::fit(trials, best, rms, samples, passes, &mut text, 0);
-    flush(&text, n);
+    flush(stderr, &text, n);
 }
 
 // The residual beside the samples' own noise, for so many non-empty passes.
-pub fn noise(rms: f64, estimate: f64, passes: usize) {
+pub fn noise(stderr: Stderr, rms: f64, estimate: f64, passes: usize) {
     let mut text = [0u8; 512];
     let n = fitted::noise(
         estimate,
@@ -116,61 +139,60 @@ pub fn noise(rms: f64, estimate: f64, passes: usize) {
         &mut text,
         0,
     );
-    flush(&text, n);
+    flush(stderr, &text, n);
 }
 
 // The name of the file that word i gives, into the first places of out.
-fn file_name(i: usize, out: &mut [u8]) -> usize
+fn file_name(rt: &impl Env, i: usize, out: &mut [u8]) -> usize
     ensures { IsPrefixLen result out.new }
 {
-    let n = os::arg(i, out);
-    if os::errno() != 0 {
-        return 0;
+    match rt.arg(i, out) {
+        Ok(n) => n,
+        Err(_) => 0,
     }
-    n
 }
 
-fn pass_line(name: &[u8], b: Biases) {
+fn pass_line(stderr: Stderr, name: &[u8], b: Biases) {
     let mut text = [0u8; 4608];
     let n = fitted::pass(name, b.dt, b.df, b.df1, b.df2, &mut text, 0);
-    flush(&text, n);
+    flush(stderr, &text, n);
 }
 
 // The biases of the file of word i, if it has samples.
-pub fn pass(i: usize, b: Biases) {
+pub fn pass(rt: &impl Env, stderr: Stderr, i: usize, b: Biases) {
     if !b.sampled {
         return;
     }
-    let mut path = io::buffer();
-    let n = file_name(i, &mut path);
-    pass_line(&path[..n], b);
+    let mut path = [0u8; 4096];
+    let n = file_name(rt, i, &mut path);
+    pass_line(stderr, &path[..n], b);
 }
 
-fn refused_line(name: &[u8], k: u32) {
+fn refused_line(stderr: Stderr, name: &[u8], k: u32) {
     let mut text = [0u8; 4608];
     let n = refused::file_refusal(name, 0, k, &mut text, 0);
-    flush(&text, n);
+    flush(stderr, &text, n);
 }
 
 // A refusal for what is in the file of word i.
-pub fn file_refusal(i: usize, k: u32) {
-    let mut path = io::buffer();
-    let n = file_name(i, &mut path);
-    refused_line(&path[..n], k);
+pub fn file_refusal(rt: &impl Env, stderr: Stderr, i: usize, k: u32) {
+    let mut path = [0u8; 4096];
+    let n = file_name(rt, i, &mut path);
+    refused_line(stderr, &path[..n], k);
 }
 
 // The name of the file of word i.
-fn word_of_file(i: usize) {
-    let mut path = io::buffer();
-    let n = file_name(i, &mut path);
-    write(&path[..n]);
+fn word_of_file(rt: &impl Env, stderr: Stderr, i: usize) {
+    let mut path = [0u8; 4096];
+    let n = file_name(rt, i, &mut path);
+    write(stderr, &path[..n]);
 }
 
 // The file of word i has the samples of that of word j.
-pub fn twice(i: usize, j: usize) {
-    write(b"warning: ");
-    word_of_file(i);
-    write(b": the same samples as ");
-    word_of_file(j);
-    write(b": the same file twice?\n");
+pub fn twice(rt: &impl Env, stderr: Stderr, i: usize, j: usize) {
+    write(stderr, b"warning: ");
+    word_of_file(rt, stderr, i);
+    write(stderr, b": the same samples as ");
+    word_of_file(rt, stderr, j);
+    write(stderr, b": the same file twice?\n");
 }

@@ -69,6 +69,7 @@ pub fn p_adic_distance(a: u64, b: u64, p: u64) -> Mapped
 
 // The fractional differences of x into the first places of out. Refused, out as it was: 12, x has above 64 numbers; 21, out
 // is too short. 0: not refused.
+#[tactic(auto, using(crate::proofs::Endings::too_long))]
 pub fn compute_fractional_difference_history(x: &[f64], out: &mut [f64]) -> u32
     ensures { Differs x.now out.old out.new result }
 {

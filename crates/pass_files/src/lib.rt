@@ -2,14 +2,21 @@
 // one is told on standard error.
 #![tactic(auto)]
 
+mod errors;
 pub mod say;
 
-ghost use Rattle.std.specs.Prelude.{◌≡◌, ◌≤◌, length};
-ghost use Rattle.io.specs.Counts.{IsPrefixLen};
+ghost use Rattle.std.specs.Prelude.{◌≡◌, ◌≤◌, length, IfSome};
+ghost use Rattle.std.specs.Io.{ReadsAtMost};
+ghost use Rattle.std.specs.Counts.{IsPrefixLen};
 ghost use Rattle.command.specs.Gather.{arrays, Continues, Gathers};
 
 use command::gather;
 use command::gather::{Gathered, Name};
+use std::env::{Env, FillError};
+use std::fs::File;
+use std::io;
+use std::io::{Read, Stderr};
+use std::rt::Files;
 
 // The bytes of the largest file that is read: 4,096 lines of 256 bytes with CR LF take 1,056,768.
 const MAX_FILE: usize = 1114112;
@@ -22,37 +29,18 @@ struct Content {
 }
 
 // Reads up to the file's end, or until the buffer is full.
-fn read_all(fd: i32, buf: &mut [u8]) -> Content
-    ensures { IsPrefixLen result.size buf.new }
+fn read_all(file: &mut impl Read, buf: &mut [u8]) -> io::Result<usize>
+    ensures { ReadsAtMost result buf.new }
 {
     let mut at = 0usize;
     while at < buf.len() {
-        let got = libc::read(fd, &mut buf[at..]);
-        if got < 0 {
-            return Content {
-                failed: true,
-                size: 0,
-            };
-        }
-        let n = io::count(got, buf);
+        let n = file.read(&mut buf[at..])?;
         if n == 0 {
-            return Content {
-                failed: false,
-                size: at,
-            };
-        }
-        if buf.len() - at < n {
-            return Content {
-                failed: true,
-                size: 0,
-            };
+            break;
         }
         at += n;
     }
-    Content {
-        failed: false,
-        size: at,
-    }
+    Ok(at)
 }
 
 // A byte more than the largest file, by which a larger one is known.
@@ -63,34 +51,42 @@ fn buffer() -> [u8; 1114113]
 }
 
 // The same of a file that is not too large. Why one is not taken has been told.
-fn read_file(fd: i32, path: &[u8], buf: &mut [u8]) -> Content
+fn read_file(stderr: Stderr, file: &mut impl Read, path: &[u8], buf: &mut [u8]) -> Content
     ensures { IsPrefixLen result.size buf.new }
 {
-    let c = read_all(fd, buf);
-    if c.failed {
-        os::fail(path);
-        return c;
+    let none = Content {
+        failed: true,
+        size: 0,
+    };
+    match read_all(file, buf) {
+        Ok(size) => {
+            if MAX_FILE < size {
+                say::file(stderr, path, b"larger than 1114112 bytes");
+                return none;
+            }
+            Content {
+                failed: false,
+                size,
+            }
+        }
+        Err(e) => {
+            errors::tell(stderr, path, e);
+            none
+        }
     }
-    if MAX_FILE < c.size {
-        say::file(path, b"larger than 1114112 bytes");
-        return Content {
-            failed: true,
-            size: 0,
-        };
-    }
-    c
 }
 
 // Before a file is added: whether it names another satellite than those before it.
-fn tell_name(path: &[u8], kept: Name, name: &[u8], file: &[u8]) {
+fn tell_name(stderr: Stderr, path: &[u8], kept: Name, name: &[u8], file: &[u8]) {
     if kept.seen {
-        say::other_name(path, name, kept.size, file);
+        say::other_name(stderr, path, name, kept.size, file);
     }
 }
 
 // The open file's content is added.
 fn add_content(
-    fd: i32,
+    stderr: Stderr,
+    from: &mut impl Read,
     path: &[u8],
     g: Gathered,
     counts: &mut [u32],
@@ -103,41 +99,58 @@ fn add_content(
         (arrays counts.new times.new freqs.new centers.new name.new) result }
 {
     let mut bytes = buffer();
-    let c = read_file(fd, path, &mut bytes);
+    let c = read_file(stderr, from, path, &mut bytes);
     if c.failed {
         return gather::stopped(g, 0);
     }
     let n = c.size;
-    tell_name(path, g.name, name, &bytes[..n]);
+    tell_name(stderr, path, g.name, name, &bytes[..n]);
     let r = gather::add(&bytes[..n], g, counts, times, freqs, centers, name);
-    say::lines(path, &bytes[..n], r.refusal);
+    say::lines(stderr, path, &bytes[..n], r.refusal);
     r
 }
 
-// A file that a word names: the name's length, and a descriptor, negative where it could not be opened, which has been told.
-#[derive(Clone, Copy)]
-struct Opened {
-    fd: i32,
-    length: usize,
+// The system's numbers for a word that is missing, and for one that is too long.
+const EINVAL: i32 = 22;
+
+const ENAMETOOLONG: i32 = 36;
+
+// The file's name that word i is, into the first places of `path`, and its length. That there is none has been told.
+fn name_of(rt: &impl Env, stderr: Stderr, i: usize, path: &mut [u8]) -> Option<usize>
+    ensures { IfSome result (λ n. IsPrefixLen n path.new) }
+{
+    let code = match rt.arg(i, path) {
+        Ok(n) => return Some(n),
+        Err(FillError::NotPresent) => EINVAL,
+        Err(FillError::TooLong) => ENAMETOOLONG,
+    };
+    errors::tell(
+        stderr,
+        b"fit-passes: a file's name",
+        io::Error::from_raw_os_error(code),
+    );
+    None
 }
 
-fn open_word(i: usize, path: &mut [u8]) -> Opened
-    ensures { IsPrefixLen result.length path.new }
-{
-    let length = os::arg(i, path);
-    if os::errno() != 0 {
-        os::fail(b"fit-passes: a file's name");
-        return Opened { fd: -1, length: 0 };
+// The file of this name, open. That it could not be opened has been told. Names are text here: another is told of and not opened.
+fn open<R: Files>(rt: &R, stderr: Stderr, path: &[u8]) -> Option<R::File> {
+    let Ok(text) = std::str::from_utf8(path) else {
+        say::file(stderr, path, b"the name is not UTF-8");
+        return None;
+    };
+    match File::open(rt, text) {
+        Ok(file) => Some(file),
+        Err(e) => {
+            errors::tell(stderr, path, e);
+            None
+        }
     }
-    let fd = os::open_read(&path[..length]);
-    if fd < 0 {
-        os::fail(&path[..length]);
-    }
-    Opened { fd, length }
 }
 
 // The file that word i names is added.
-fn add_word(
+fn add_word<R: Files + Env>(
+    rt: &R,
+    stderr: Stderr,
     i: usize,
     g: Gathered,
     counts: &mut [u32],
@@ -149,21 +162,31 @@ fn add_word(
     ensures { Continues g (arrays counts.old times.old freqs.old centers.old name.old)
         (arrays counts.new times.new freqs.new centers.new name.new) result }
 {
-    let mut path = io::buffer();
-    let f = open_word(i, &mut path);
-    let fd = f.fd;
-    if fd < 0 {
+    let mut path = [0u8; 4096];
+    let Some(n) = name_of(rt, stderr, i, &mut path) else {
         return gather::stopped(g, 0);
-    }
-    let n = f.length;
-    let r = add_content(fd, &path[..n], g, counts, times, freqs, centers, name);
-    libc::close(fd);
-    r
+    };
+    let Some(mut file) = open(rt, stderr, &path[..n]) else {
+        return gather::stopped(g, 0);
+    };
+    add_content(
+        stderr,
+        &mut file,
+        &path[..n],
+        g,
+        counts,
+        times,
+        freqs,
+        centers,
+        name,
+    )
 }
 
 // The n files from word `first` on, in their order; none after one that fails. What a file holds no contract can say: there are
 // some n contents of which the arrays hold the set. `fit_command` meets the `requires` by proof.
-pub fn gather_files(
+pub fn gather_files<R: Files + Env>(
+    rt: &R,
+    stderr: Stderr,
     first: usize,
     n: usize,
     counts: &mut [u32],
@@ -177,7 +200,17 @@ pub fn gather_files(
 {
     let mut g = gather::no_files(name);
     for i in 0..n {
-        g = add_word(i + first, g, counts, times, freqs, centers, name);
+        g = add_word(
+            rt,
+            stderr,
+            i + first,
+            g,
+            counts,
+            times,
+            freqs,
+            centers,
+            name,
+        );
         if g.failed {
             return g;
         }

@@ -1,84 +1,95 @@
 // What is said of a file on standard error. `write` and `flush` serve the command too.
-use libc::STDERR_FILENO;
+use std::io::Stderr;
 use survey::Tally;
 
-pub fn write(text: &[u8]) {
-    io::write_all(STDERR_FILENO, text);
+// What cannot be written there is lost: the command goes on without it.
+pub fn write(stderr: Stderr, text: &[u8]) {
+    let _ = stderr.write_all(text);
+}
+
+// n in decimal digits.
+fn number(stderr: Stderr, n: usize) {
+    let mut text = [0u8; 20];
+    let k = append::number(n as u64, &mut text, 0);
+    flush(stderr, &text, k);
 }
 
 // A message about one file.
-pub fn file(path: &[u8], what: &[u8]) {
-    write(path);
-    write(b": ");
-    write(what);
-    write(b"\n");
+pub fn file(stderr: Stderr, path: &[u8], what: &[u8]) {
+    write(stderr, path);
+    write(stderr, b": ");
+    write(stderr, what);
+    write(stderr, b"\n");
 }
 
 // The first n bytes.
-pub fn flush(text: &[u8], n: usize) {
+pub fn flush(stderr: Stderr, text: &[u8], n: usize) {
     if n <= text.len() {
-        write(&text[..n]);
+        write(stderr, &text[..n]);
     }
 }
 
-fn refused(path: &[u8], k: u32, line: usize) {
+fn refused(stderr: Stderr, path: &[u8], k: u32, line: usize) {
     let mut text = [0u8; 4608];
     let n = report_text::refused::file_refusal(path, line, k, &mut text, 0);
-    flush(&text, n);
+    flush(stderr, &text, n);
 }
 
-fn all_or_some(t: Tally) {
+fn all_or_some(stderr: Stderr, t: Tally) {
     if t.used == 0 {
-        write(b"all ");
+        write(stderr, b"all ");
     }
-    io::print_decimal(STDERR_FILENO, t.skipped as u64);
+    number(stderr, t.skipped);
 }
 
-fn line_or_lines(n: usize) {
+fn line_or_lines(stderr: Stderr, n: usize) {
     if n == 1 {
-        write(b" line that is");
+        write(stderr, b" line that is");
         return;
     }
-    write(b" lines that are");
+    write(stderr, b" lines that are");
 }
 
-fn skipped(path: &[u8], t: Tally) {
+fn skipped(stderr: Stderr, path: &[u8], t: Tally) {
     if t.skipped == 0 {
         return;
     }
-    write(b"warning: ");
-    write(path);
-    write(b": skipped ");
-    all_or_some(t);
-    line_or_lines(t.skipped);
-    write(b" neither a header nor a sample, first line ");
-    io::print_decimal(STDERR_FILENO, t.first as u64);
-    write(b"\n");
+    write(stderr, b"warning: ");
+    write(stderr, path);
+    write(stderr, b": skipped ");
+    all_or_some(stderr, t);
+    line_or_lines(stderr, t.skipped);
+    write(stderr, b" neither a header nor a sample, first line ");
+    number(stderr, t.first);
+    write(stderr, b"\n");
 }
 
 // Of a file's lines, which was refused, by this number, or how many were skipped.
-pub fn lines(path: &[u8], file: &[u8], k: u32) {
+pub fn lines(stderr: Stderr, path: &[u8], file: &[u8], k: u32) {
     let t = survey::survey(file);
     if k != 0 {
-        refused(path, k, t.refused);
+        refused(stderr, path, k, t.refused);
         return;
     }
-    skipped(path, t);
+    skipped(stderr, path, t);
 }
 
-fn unlike(path: &[u8], name: &[u8], file: &[u8]) {
+fn unlike(stderr: Stderr, path: &[u8], name: &[u8], file: &[u8]) {
     if pass_checks::is_other_name(name, file) {
-        write(b"warning: ");
-        write(path);
-        write(b": its satellite's name differs from that of a file before it, ");
-        write(name);
-        write(b"\n");
+        write(stderr, b"warning: ");
+        write(stderr, path);
+        write(
+            stderr,
+            b": its satellite's name differs from that of a file before it, ",
+        );
+        write(stderr, name);
+        write(stderr, b"\n");
     }
 }
 
 // A file that names another satellite than a file before it, whose name is in the first n bytes.
-pub fn other_name(path: &[u8], name: &[u8], n: usize, file: &[u8]) {
+pub fn other_name(stderr: Stderr, path: &[u8], name: &[u8], n: usize, file: &[u8]) {
     if n <= name.len() {
-        unlike(path, &name[..n], file);
+        unlike(stderr, path, &name[..n], file);
     }
 }

@@ -4,8 +4,6 @@
 // writes nothing. The epoch is the first sample's moment; empty passes are passes like others, with biases of their own.
 #![tactic(auto)]
 
-pub mod exported;
-
 ghost use Rattle.std.specs.Prelude.{◌≡◌, ◌*◌, ◌≤◌, length, get_or};
 ghost use Rattle.float.specs.Ops.{bits};
 ghost use Rattle.moment.specs.Range.{Within};

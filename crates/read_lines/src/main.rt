@@ -2,6 +2,8 @@
 // motion, each a whole number in units of its last printed place; or - and the number of the refusal. What follows the two lines is not looked at.
 #![tactic(auto)]
 
-fn main() {
-    elements_shown::program::run();
+use std::io;
+
+fn main(rt: HostRuntime) -> io::Result<()> {
+    elements_shown::program::run(rt.stdin(), rt.stdout(), rt.stderr())
 }

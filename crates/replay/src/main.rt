@@ -12,6 +12,9 @@ ghost use Rattle.append.specs.Append.{Appends, numeral};
 ghost use Rattle.replay.specs.Count.{lines_in, counted, tally_with, tally_ended, Tallied};
 ghost use Rattle.replay.specs.Report.{list_ending, report_text, Reports};
 
+use std::io;
+use std::io::Stdout;
+
 // What the lines came to so far.
 #[derive(Clone, Copy)]
 struct Tally {
@@ -35,9 +38,10 @@ fn agrees(line: &[u8]) -> bool {
         || replay_fits::agrees(line)
 }
 
-fn show(line: &[u8]) {
-    io::write_all(1, line);
-    io::write_all(1, b"\n");
+// A line that cannot be written is lost: then the report cannot be written either, by which the program fails.
+fn show(stdout: Stdout, line: &[u8]) {
+    let _ = stdout.write_all(line);
+    let _ = stdout.write_all(b"\n");
 }
 
 // The tally with one line more, which was changed or not, and agrees or not.
@@ -102,17 +106,17 @@ fn ended(t: Tally, said: u64) -> Tally
 }
 
 // Whether the line agrees, its mark `not ` put aside. A line that is not as it must be is written.
-fn found(line: &[u8], changed: bool) -> bool {
+fn found(stdout: Stdout, line: &[u8], changed: bool) -> bool {
     let mark = if changed { 4usize } else { 0usize };
     let same = agrees(answer_lines::after(line, mark));
     if same == changed {
-        show(line);
+        show(stdout, line);
     }
     same
 }
 
 // The tally with one line more.
-fn tallied(t: Tally, line: &[u8]) -> Tally
+fn tallied(stdout: Stdout, t: Tally, line: &[u8]) -> Tally
     requires { counted t + 1 < 18446744073709551616 }
     ensures { Tallied t line.now result }
 {
@@ -120,11 +124,11 @@ fn tallied(t: Tally, line: &[u8]) -> Tally
         return ended(t, answer_lines::field(answer_lines::asked(line), 0));
     }
     let changed = answer_lines::begins_with(line, b"not ");
-    noted(t, changed, found(line, changed))
+    noted(t, changed, found(stdout, line, changed))
 }
 
 // The tally of a whole list: every line is counted, and once.
-fn compare(text: &[u8]) -> Tally
+fn compare(stdout: Stdout, text: &[u8]) -> Tally
     ensures { counted result ≡ lines_in text.now }
 {
     let mut t = Tally {
@@ -138,7 +142,7 @@ fn compare(text: &[u8]) -> Tally
     let mut at = 0usize;
     while at < text.len() {
         let end = answer_lines::line_end(text, at);
-        t = tallied(t, &text[at..end]);
+        t = tallied(stdout, t, &text[at..end]);
         at = end + 1;
     }
     t
@@ -178,11 +182,12 @@ fn report(t: Tally, out: &mut [u8; 160]) -> usize
     put_report(t, out)
 }
 
-fn main() {
+fn main(rt: HostRuntime) -> io::Result<()> {
     let mut text = rooms::list();
-    let n = io::read_full(0, &mut text);
-    let t = compare(&text[..n]);
+    let n = standard_input::read_full(rt.stdin(), &mut text);
+    let stdout = rt.stdout();
+    let t = compare(stdout, &text[..n]);
     let mut out = [0u8; 160];
     let k = report(t, &mut out);
-    io::write_all(1, answer_lines::first_bytes(&out, k as u64));
+    stdout.write_all(answer_lines::first_bytes(&out, k as u64))
 }

@@ -1,6 +1,6 @@
 -- What is promised of standard input: no contract can say which bytes a read gives.
 use Rattle.std.specs.Prelude.{List, ℕ}
-use Rattle.io.specs.Counts.{IsPrefixLen}
+use Rattle.std.specs.Counts.{IsPrefixLen}
 use Rattle.standard_input.specs.declared.Input.{Input}
 
 -- the bytes that are counted stand in the buffer

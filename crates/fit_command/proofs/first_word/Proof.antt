@@ -5,7 +5,7 @@ use mathlib.Core.List.{List}
 use native.Mathlib.Nat.{le_refl}
 use lib.ListN.{length}
 use lib.Seq.{take-length}
-use Rattle.io.specs.Counts.{IsPrefixLen}
+use Rattle.std.specs.Counts.{IsPrefixLen}
 use borrow.Author.Rules.{rules}
 use Rattle.fit_command.proofs.first_word.Statement.{statement}
 use Rattle.fit_command.proofs.first_word.Tie as tie

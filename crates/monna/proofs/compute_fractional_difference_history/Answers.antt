@@ -1,10 +1,7 @@
 -- `compute_fractional_difference_history` meets its contract. Assumes nothing.
 use Rattle.std.proofs.Common.{sym, arith, length-take-le, rules}
-use Rattle.monna.proofs.Endings.{too_long, too_short, written}
+use Rattle.monna.proofs.Endings.{too_short, written}
 use Rattle.monna.proofs.compute_fractional_difference_history.Goals as goal
-
-pub returns-then-n-gt64 : goal.returns-then-n-gt64
-returns-then-n-gt64 c = search (rules, too_long)
 
 pub returns-then-out-n : goal.returns-then-out-n
 returns-then-out-n c = search (rules, too_short)

@@ -1,0 +1,13 @@
+-- `answer_lines::bytes_are` meets its contract. Assumes nothing.
+use Prim.Native.Nat.{◌-◌}
+use lib.ListN.{length}
+use lib.Dec.{eqb}
+use Rattle.answer_lines.specs.Lines.{packed_byte, byte_items}
+use Rattle.answer_lines.proofs.Laws.{Testing}
+use Rattle.answer_lines.proofs.bytes_are.Given as goal
+
+abbrev pub invariant-loop-i : goal.invariant-loop-i
+invariant-loop-i l = Testing (λ k b. eqb b (packed_byte (l.fields) k)) l.x (byte_items l.fields l.x) l.i
+
+abbrev pub decreases-loop-i : goal.decreases-loop-i
+decreases-loop-i l = length l.x - l.i

@@ -1,0 +1,11 @@
+use Rattle.float.specs.Trig.{pi_bits}
+use Rattle.tle.specs.Answer.{inclination_fits}
+use Rattle.tle.proofs.elements.accepted_inclination.Goals as goal
+
+pub returns-then-accepted_angle : goal.returns-then-accepted_angle
+unfolding inclination_fits
+returns-then-accepted_angle c = simp (c.inside_of.ensures, pi_bits, ← c.accepted_angle.ensures, c.if-accepted_angle.true)
+
+pub returns : goal.returns
+unfolding inclination_fits
+returns c = simp (← c.accepted_angle.ensures, c.if-accepted_angle.false)
