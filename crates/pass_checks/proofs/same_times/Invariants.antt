@@ -1,0 +1,12 @@
+-- `same_times` meets its contract: the times from k on decide what all do. Assumes nothing.
+use Prim.Native.Nat.{◌-◌, ◌≤◌}
+use lib.ListN.{length}
+use Rattle.pass_checks.specs.Checks.{level}
+use Rattle.pass_checks.proofs.Walks.{SameFrom}
+use Rattle.pass_checks.proofs.same_times.Given as goal
+
+abbrev pub invariant-loop-k : goal.invariant-loop-k
+invariant-loop-k l = (l.k ≤ length l.a) × SameFrom level l.a l.b l.k
+
+abbrev pub decreases-loop-k : goal.decreases-loop-k
+decreases-loop-k l = length l.a - l.k
