@@ -1,5 +1,5 @@
 -- A float as the report prints it: to six places, halves away from zero, by one product and one rounding.
-use Rattle.std.specs.Prelude.{ℕ, ◌+◌, ◌/◌, ◌≡◌, refl, not, cond, List, [], ◌∷◌, ◌++◌, eqb, Float}
+use Rattle.std.specs.Prelude.{ℕ, ◌+◌, ◌/◌, ◌≡◌, refl, cond, List, [], ◌∷◌, ◌++◌, eqb, Float}
 use Rattle.std.specs.Float.Ieee.{is_nan, lt, of_bits, round, to_unsigned}
 use Rattle.text.specs.Text.{bytes}
 use Rattle.float.specs.Constant.{decimal}

@@ -1,0 +1,8 @@
+use Rattle.append.proofs.Appending.{both}
+use Rattle.report_text.specs.Number.{size_text}
+use Rattle.report_text.proofs.number.size.Goals as goal
+
+pub returns : goal.returns
+unfolding size_text
+returns c =
+    both c.number-a.ensures (both c.text-b.ensures c.six.ensures)

@@ -1,0 +1,8 @@
+use Rattle.append.proofs.Appending.{both}
+use Rattle.report_text.specs.Sentences.{file_refusal_of}
+use Rattle.report_text.proofs.refused.file_refusal.Goals as goal
+
+pub returns : goal.returns
+unfolding file_refusal_of
+returns c =
+    both c.text-a.ensures (both c.text-b.ensures (both c.line-c.ensures c.numbered.ensures))
