@@ -12,6 +12,9 @@ use pass_set::MAX_PASSES;
 // How many sums the log has room for.
 pub const MAX_TRIALS: usize = 150;
 
+// How many non-empty passes a fit needs.
+const LEAST_PASSES: usize = 2;
+
 // The counts of the non-empty passes in the first places, and how many they are.
 #[derive(Clone, Copy)]
 pub struct NonEmpty {
@@ -164,7 +167,7 @@ pub fn input_refusal(
         return refusal::NAN_FREQUENCY;
     }
     let passes = non_empty(counts).passes;
-    if passes < 2 {
+    if passes < LEAST_PASSES {
         return refusal::FEW_PASSES;
     }
     if times.len() < 4 + passes {

@@ -46,13 +46,16 @@ fn julian(y: f64, m: f64, jd_day: f64) -> f64
     float::floor(365.25 * (y + 4716.0)) + float::floor(30.6001 * (m + 1.0)) + jd_day + b - 1524.5
 }
 
+// The last month that counts as one of the year before.
+const FEBRUARY: u32 = 2;
+
 fn jd(d: Date, part: f64) -> f64
     ensures { result ≡ jd_of d part }
 {
     let year = d.year as f64;
     let month = d.month as f64;
     let jd_day = d.day as f64 + part;
-    if d.month <= 2 {
+    if d.month <= FEBRUARY {
         julian(year - 1.0, month + 12.0, jd_day)
     } else {
         julian(year, month, jd_day)

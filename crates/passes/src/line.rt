@@ -16,6 +16,9 @@ const READER_2057: u64 = 64912838400;
 
 const FROM_1957: i64 = 410227200000000000;
 
+// How many bytes a line has at most.
+const LONGEST: usize = 256;
+
 #[derive(Clone, Copy)]
 pub enum Line {
     Skipped,
@@ -163,7 +166,7 @@ pub fn read_line(l: &[u8]) -> Line
     if !pieces::ascii(l) {
         return Line::Refusal(refusal::NON_ASCII);
     }
-    if 256 < l.len() {
+    if LONGEST < l.len() {
         return Line::Refusal(refusal::LONG_LINE);
     }
     let p = pieces::trim(l);

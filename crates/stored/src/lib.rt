@@ -8,6 +8,9 @@ pub mod number;
 ghost use Rattle.std.specs.Prelude.{◌≡◌};
 ghost use Rattle.stored.specs.Sets as Sets;
 
+// How many samples a set has at most.
+const MOST_SAMPLES: usize = 4096;
+
 // What a set that was loaded has.
 #[derive(Clone, Copy)]
 pub struct Loaded {
@@ -38,7 +41,7 @@ fn sized_right(b: &[u8]) -> bool
         return false;
     }
     let samples = arrays::total_at(b, passes);
-    if 4096 < samples {
+    if MOST_SAMPLES < samples {
         return false;
     }
     b.len() == 4 + 4 * passes + 16 * samples

@@ -1,5 +1,4 @@
 -- `any_nan` meets its contract: the samples from k on decide what all do. Assumes nothing.
-use Prim.Native.Nat.{◌-◌}
 use borrow.Author.Rules.{rules}
 use Rattle.arguments.proofs.Walks.{nan_first, nan_next, nan_found, nan_last}
 use Rattle.arguments.proofs.any_nan.Goals as goal

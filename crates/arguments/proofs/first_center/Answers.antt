@@ -1,5 +1,4 @@
 -- `first_center` meets its contract: the passes from p on decide what all do. Assumes nothing.
-use Prim.Native.Nat.{◌-◌}
 use borrow.Author.Rules.{rules}
 use Rattle.arguments.proofs.Walks.{center_first, center_next, center_found, center_last}
 use Rattle.arguments.proofs.first_center.Goals as goal

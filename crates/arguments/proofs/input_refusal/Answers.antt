@@ -76,9 +76,9 @@ pub non_empty-passes-requires : goal.non_empty-passes-requires
 non_empty-passes-requires c =
     few _ _ _ _ c.sizes_agree.result c.sizes_agree.ensures (ap not c.if-not-sizes_agree.false)
 
-pub returns-then-passes-lt2 : goal.returns-then-passes-lt2
+pub returns-then-passes-lt-LEAST_PASSES : goal.returns-then-passes-lt-LEAST_PASSES
 unfolding input_refusal_of
-returns-then-passes-lt2 c =
+returns-then-passes-lt-LEAST_PASSES c =
     simp (
       ← c.sizes_agree.ensures,
       c.if-not-sizes_agree.false,
@@ -91,7 +91,7 @@ returns-then-passes-lt2 c =
       ← c.any_nan.ensures,
       c.if-any_nan.false,
       ← c.non_empty-passes.ensures.number,
-      lt-ltb _ _ c.if-passes-lt2.true,
+      lt-ltb _ _ c.if-passes-lt-LEAST_PASSES.true,
     )
 
 pub overflow_add-passes : goal.overflow_add-passes
@@ -114,7 +114,7 @@ returns-then-times-passes c =
       ← c.any_nan.ensures,
       c.if-any_nan.false,
       ← c.non_empty-passes.ensures.number,
-      le-ltb _ _ c.if-passes-lt2.false,
+      le-ltb _ _ c.if-passes-lt-LEAST_PASSES.false,
       lt-ltb _ _ c.if-times-passes.true,
     )
 
@@ -133,6 +133,6 @@ returns c =
       ← c.any_nan.ensures,
       c.if-any_nan.false,
       ← c.non_empty-passes.ensures.number,
-      le-ltb _ _ c.if-passes-lt2.false,
+      le-ltb _ _ c.if-passes-lt-LEAST_PASSES.false,
       le-ltb _ _ c.if-times-passes.false,
     )

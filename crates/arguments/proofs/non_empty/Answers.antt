@@ -1,7 +1,5 @@
 -- `non_empty` meets its contract: the first n places hold the non-empty of the first p counts. Assumes nothing.
 use mathlib.Core.Path.{refl}
-use mathlib.Core.Logic.{⊎_elim}
-use Prim.Native.Nat.{◌-◌}
 use Rattle.arguments.proofs.Walks.{kept_first, kept_more, kept_skip, kept_last}
 use Rattle.arguments.proofs.non_empty.Goals.{then-count-ne0, else-count-ne0}
 use Rattle.arguments.proofs.non_empty.Goals as goal
@@ -12,7 +10,7 @@ loop-p-init c = kept_first _ _ refl
 pub loop-p-preserved : goal.loop-p-preserved
 loop-p-preserved c =
     elim c.if-count-ne0.branch [
-      then-count-ne0 w ↦ kept_more c.loop-p-test.true c.loop-p.invariant c.requires w.if-count-ne0.true w.out-is w.n-is
+      | then-count-ne0 w ↦ kept_more c.loop-p-test.true c.loop-p.invariant c.requires w.if-count-ne0.true w.out-is w.n-is
       | else-count-ne0 w ↦ kept_skip c.loop-p-test.true c.loop-p.invariant w.if-count-ne0.false w.out-is w.n-is
     ]
 

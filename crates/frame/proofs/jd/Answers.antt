@@ -3,10 +3,10 @@ use lib.Ieee.{of_bits, round}
 use Rattle.frame.specs.Julian.{jd_of}
 use Rattle.frame.proofs.jd.Goals as goal
 
-pub returns-then-d-le2 : goal.returns-then-d-le2
+pub returns-then-d-le-FEBRUARY : goal.returns-then-d-le-FEBRUARY
 unfolding jd_of of_bits round
-returns-then-d-le2 c = simp (c.julian.ensures, le-leb _ _ c.if-d-le2.true)
+returns-then-d-le-FEBRUARY c = simp (c.julian.ensures, le-leb _ _ c.if-d-le-FEBRUARY.true)
 
-pub returns-else-d-le2 : goal.returns-else-d-le2
+pub returns-else-d-le-FEBRUARY : goal.returns-else-d-le-FEBRUARY
 unfolding jd_of of_bits round
-returns-else-d-le2 c = simp (c.julian-else-d-le2.ensures, lt-leb _ _ c.if-d-le2.false)
+returns-else-d-le-FEBRUARY c = simp (c.julian-else-d-le-FEBRUARY.ensures, lt-leb _ _ c.if-d-le-FEBRUARY.false)

@@ -1,6 +1,5 @@
 -- `counts_at` meets its contract: what is written, then the counts still to come, are all. Assumes nothing.
 use mathlib.Core.Path.{refl}
-use Prim.Native.Nat.{◌-◌}
 use native.Mathlib.Omega.{arith}
 use borrow.Author.Rules.{rules}
 use Rattle.residuals.proofs.Samples.{none_counted, one_counted, all_counted}

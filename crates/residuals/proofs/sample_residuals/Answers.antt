@@ -2,12 +2,12 @@
 -- give, is the whole. Assumes nothing.
 use mathlib.Core.Path.{◌≡◌, refl, sym, ap, ◌∙◌}
 use mathlib.Core.Option.{some}
-use Prim.Native.Nat.{ℕ, ◌+◌, ◌-◌}
+use Prim.Native.Nat.{ℕ, ◌+◌}
 use native.Mathlib.Omega.{arith}
 use borrow.Author.Rules.{rules}
 use lib.ListN.{length, take, drop, length-set}
 use Rattle.residuals.specs.Samples.{passes_of}
-use Rattle.residuals.specs.Residuals.{◌then◌, residual, passes}
+use Rattle.residuals.specs.Residuals.{residual, passes}
 use Rattle.residuals.specs.Answers.{filled, filled_refusal}
 use Rattle.orbit.proofs.Hoisted.{sight_sound}
 use Rattle.residuals.proofs.Samples.{seen, seen_prediction}

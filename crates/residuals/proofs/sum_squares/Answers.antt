@@ -1,6 +1,5 @@
 -- `sum_squares` meets its contract: the squares still to come, added to what is summed, make the whole. Assumes nothing.
 use mathlib.Core.Path.{refl, sym, ◌∙◌}
-use Prim.Native.Nat.{◌-◌}
 use borrow.Author.Rules.{rules}
 use Rattle.residuals.proofs.Laws.{squares_next, squares_end}
 use Rattle.residuals.proofs.sum_squares.Goals as goal

@@ -16,15 +16,15 @@ returns-then-passes-gt16 c = many_passes c.args.b.now (subst (λ (n : ℕ). 16 <
 pub returns-then-b-passes : goal.returns-then-b-passes
 returns-then-b-passes c = let b = c.args.b.now in short b (subst (λ (n : ℕ). length b < 4 + 4 * n) c.word_at-passes.ensures.is c.if-b-passes.true)
 
-pub returns-then-samples-gt4096 : goal.returns-then-samples-gt4096
-returns-then-samples-gt4096 c =
+pub returns-then-samples-gt-MOST_SAMPLES : goal.returns-then-samples-gt-MOST_SAMPLES
+returns-then-samples-gt-MOST_SAMPLES c =
     let b = c.args.b.now in
     let k = counted b c.word_at-passes.ensures.is c.total_at-samples.ensures in
-    many_samples b (subst (λ (n : ℕ). 4096 < n) k.samples c.if-samples-gt4096.true)
+    many_samples b (omega (arith, k.samples))
 
 pub returns : goal.returns
 returns c =
     let b = c.args.b.now in
     let k = counted b c.word_at-passes.ensures.is c.total_at-samples.ensures in
     (λ j. eqb (length b) (4 + 4 * k.passes j + 16 * k.samples j))
-    ∙ by_length b (subst (λ (n : ℕ). n ≤ 16) k.passes c.if-passes-gt16.false) (subst (λ (n : ℕ). n ≤ 4096) k.samples c.if-samples-gt4096.false)
+    ∙ by_length b (subst (λ (n : ℕ). n ≤ 16) k.passes c.if-passes-gt16.false) (subst (λ (n : ℕ). n ≤ 4096) k.samples c.if-samples-gt-MOST_SAMPLES.false)

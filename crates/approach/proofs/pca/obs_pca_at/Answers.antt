@@ -1,6 +1,5 @@
 -- `obs_pca_at` meets its contract. Assumes nothing.
 use mathlib.Core.Path.{ap}
-use Prim.Native.Nat.{◌-◌}
 use Rattle.loops.proofs.Laws.{begins, ends, loops}
 use Rattle.float.specs.Ops.{largest_bits}
 use Rattle.approach.specs.Pca.{obs_pca_at}

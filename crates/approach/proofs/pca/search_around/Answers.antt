@@ -1,6 +1,5 @@
 -- `search_around` meets its contract. Assumes nothing.
 use mathlib.Core.Path.{refl}
-use Prim.Native.Nat.{◌-◌}
 use native.Mathlib.Omega.{arith}
 use Rattle.loops.proofs.Laws.{begins, again, ends, loops}
 use Rattle.approach.specs.Pca.{searched_of}

@@ -1,6 +1,5 @@
 -- `rss` meets its contract. The passes begin where the counts before them end. Assumes nothing.
 use mathlib.Core.Path.{refl}
-use Prim.Native.Nat.{◌-◌}
 use native.Mathlib.Omega.{arith}
 use Rattle.loops.proofs.Laws.{begins, again, ends, loops}
 use Rattle.pass_set.proofs.Laws.{first_pass, next_pass, pass_fits}

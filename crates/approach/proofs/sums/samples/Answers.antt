@@ -1,6 +1,5 @@
 -- `samples` meets its contract. Assumes nothing.
 use mathlib.Core.Path.{refl}
-use Prim.Native.Nat.{◌-◌}
 use native.Mathlib.Omega.{arith}
 use Rattle.loops.proofs.Laws.{begins, loops}
 use Rattle.approach.specs.Sums.{samples_of}

@@ -1,6 +1,5 @@
 -- `fill_window` meets its contract. Assumes nothing.
 use mathlib.Core.Path.{◌≡◌}
-use Prim.Native.Nat.{◌-◌}
 use native.Mathlib.Omega.{arith}
 use Rattle.loops.proofs.Laws.{loops}
 use Rattle.approach.specs.Turns.{entries}

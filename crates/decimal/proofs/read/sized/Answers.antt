@@ -12,18 +12,18 @@ pub returns-then-w-p-gt19 : goal.returns-then-w-p-gt19
 unfolding Read.sized
 returns-then-w-p-gt19 c = simp (lt-ltb _ _ c.if-w-p-gt19.true)
 
-pub returns-then-n-gt2 : goal.returns-then-n-gt2
+pub returns-then-n-gt-EXPONENT_DIGITS : goal.returns-then-n-gt-EXPONENT_DIGITS
 unfolding Read.sized
-returns-then-n-gt2 c = simp (le-ltb _ _ c.if-w-p-gt19.false, lt-ltb _ _ c.if-n-gt2.true)
-
-pub returns-then-e-gt30 : goal.returns-then-e-gt30
-unfolding Read.sized
-returns-then-e-gt30 c = simp (le-ltb _ _ c.if-w-p-gt19.false, le-ltb _ _ c.if-n-gt2.false, lt-ltb _ _ (rw c.append-e.ensures.0 at c.if-e-gt30.true))
+returns-then-n-gt-EXPONENT_DIGITS c = simp (le-ltb _ _ c.if-w-p-gt19.false, lt-ltb 2 c.args.n (omega arith))
 
 pub returns-then-en : goal.returns-then-en
 unfolding Read.sized
-returns-then-en c = simp (c.ratio.ensures, c.mantissa-d.ensures, c.append-e.ensures.0, le-ltb _ _ c.if-w-p-gt19.false, le-ltb _ _ c.if-n-gt2.false, le-ltb _ _ (rw c.append-e.ensures.0 at c.if-e-gt30.false), c.if-en.true)
+returns-then-en c = simp (c.ratio.ensures, c.mantissa-d.ensures, c.append-e.ensures.0, le-ltb _ _ c.if-w-p-gt19.false, le-ltb _ _ c.if-n-gt-EXPONENT_DIGITS.false, le-ltb _ _ (rw c.append-e.ensures.0 at c.if-e-gt30.false), c.if-en.true)
 
 pub returns : goal.returns
 unfolding Read.sized
-returns c = simp (add-zero, c.ratio-2.ensures, c.mantissa-d.ensures, c.append-e.ensures.0, le-ltb _ _ c.if-w-p-gt19.false, le-ltb _ _ c.if-n-gt2.false, le-ltb _ _ (rw c.append-e.ensures.0 at c.if-e-gt30.false), c.if-en.false)
+returns c = simp (add-zero, c.ratio-2.ensures, c.mantissa-d.ensures, c.append-e.ensures.0, le-ltb _ _ c.if-w-p-gt19.false, le-ltb _ _ c.if-n-gt-EXPONENT_DIGITS.false, le-ltb _ _ (rw c.append-e.ensures.0 at c.if-e-gt30.false), c.if-en.false)
+
+pub returns-then-e-gt30 : goal.returns-then-e-gt30
+unfolding Read.sized
+returns-then-e-gt30 c = simp (le-ltb _ _ c.if-w-p-gt19.false, le-ltb _ _ c.if-n-gt-EXPONENT_DIGITS.false, lt-ltb _ _ (rw c.append-e.ensures.0 at c.if-e-gt30.true))
