@@ -10,6 +10,11 @@ ghost use Rattle.tle.specs.Answer.{from_to, angle_fits, radius_fits, inclination
 use moment::Instant;
 use solution::SolvedOrbit;
 
+// A whole turn in 10^-4 degrees, and the longest name.
+const TURN: u64 = 3600000;
+
+const LONGEST_NAME: usize = 24;
+
 pub fn degrees(x: f64) -> f64
     ensures { result ≡ printed_degrees x }
 {
@@ -21,7 +26,7 @@ pub fn within_turn(v: f64) -> f64
     requires { T (within v) }
     ensures { result ≡ within_turn v }
 {
-    if decimal::fixed::scaled(v, 4, 10000) == 3600000 {
+    if decimal::fixed::scaled(v, 4, 10000) == TURN {
         return 0.0;
     }
     v
@@ -135,7 +140,7 @@ fn visible_byte(c: u8) -> bool
 pub fn accepted_name(name: &[u8]) -> bool
     ensures { result ≡ name_fits name.now }
 {
-    if 24 < name.len() {
+    if LONGEST_NAME < name.len() {
         return false;
     }
     for i in 0usize..name.len() {

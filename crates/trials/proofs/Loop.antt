@@ -8,7 +8,7 @@ use native.Mathlib.Omega.{arith}
 use lib.ListN.{length, set, length-set}
 use lib.Ieee.{Float, lt}
 use Rattle.float.specs.Ops.{bits}
-use Rattle.normal.specs.Step.{Outcome, next, refused}
+use Rattle.normal.specs.Step.{Outcome, next}
 use Rattle.normal.specs.Answers.{outcome}
 use Rattle.normal.specs.declared.Step.{Step}
 use Rattle.normal.specs.declared.Step.TheVariants.{Next, Short, Singular, Refused}

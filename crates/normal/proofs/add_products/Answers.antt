@@ -1,5 +1,4 @@
 -- `add_products` meets its contract. Assumes nothing.
-use Prim.Native.Nat.{◌-◌}
 use Rattle.loops.proofs.Laws.{begins, loops}
 use Rattle.normal.specs.Normal.{add_products}
 use borrow.Author.Rules.{rules}

@@ -1,5 +1,4 @@
 -- `add_rights` meets its contract. Assumes nothing.
-use Prim.Native.Nat.{◌-◌}
 use Rattle.loops.proofs.Laws.{loops}
 use Rattle.normal.specs.Normal.{add_rights}
 use Rattle.normal.proofs.add_rights.Goals as goal

@@ -1,5 +1,4 @@
 -- `add_row` meets its contract. Assumes nothing.
-use Prim.Native.Nat.{◌-◌}
 use Rattle.loops.proofs.Laws.{loops}
 use Rattle.normal.specs.Normal.{add_row}
 use Rattle.normal.proofs.add_row.Goals as goal

@@ -1,5 +1,4 @@
 -- `damp` meets its contract. Assumes nothing.
-use Prim.Native.Nat.{◌-◌}
 use Rattle.loops.proofs.Laws.{loops}
 use Rattle.normal.specs.Step.{damped}
 use Rattle.normal.proofs.damp.Goals as goal

@@ -1,5 +1,4 @@
 -- `divide` meets its contract. Assumes nothing.
-use Prim.Native.Nat.{◌-◌}
 use Rattle.loops.proofs.Laws.{loops}
 use Rattle.normal.specs.Step.{divided}
 use Rattle.normal.proofs.divide.Goals as goal

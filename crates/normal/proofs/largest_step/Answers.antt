@@ -1,5 +1,4 @@
 -- `largest_step` meets its contract. Assumes nothing.
-use Prim.Native.Nat.{◌-◌}
 use Rattle.loops.proofs.Laws.{loops}
 use Rattle.normal.specs.Step.{largest_step}
 use Rattle.normal.proofs.largest_step.Goals as goal

@@ -1,5 +1,4 @@
 -- `scale` meets its contract. Assumes nothing.
-use Prim.Native.Nat.{◌-◌}
 use Rattle.loops.proofs.Laws.{loops}
 use Rattle.normal.specs.Step.{scaled}
 use Rattle.normal.proofs.scale.Goals as goal

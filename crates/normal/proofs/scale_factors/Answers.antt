@@ -1,5 +1,4 @@
 -- `scale_factors` meets its contract. Assumes nothing.
-use Prim.Native.Nat.{◌-◌}
 use Rattle.loops.proofs.Laws.{begins, loops}
 use Rattle.normal.specs.Step.{scales}
 use borrow.Author.Rules.{rules}

@@ -1,5 +1,4 @@
 -- `scale_row` meets its contract. Assumes nothing.
-use Prim.Native.Nat.{◌-◌}
 use Rattle.loops.proofs.Laws.{loops}
 use Rattle.normal.specs.Step.{scale_row}
 use Rattle.normal.proofs.scale_row.Goals as goal

@@ -1,5 +1,4 @@
 -- `subtract` meets its contract. Assumes nothing.
-use Prim.Native.Nat.{◌-◌}
 use Rattle.loops.proofs.Laws.{loops}
 use Rattle.normal.specs.Step.{subtracted}
 use Rattle.normal.proofs.subtract.Goals as goal

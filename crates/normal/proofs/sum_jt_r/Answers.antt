@@ -1,5 +1,4 @@
 -- `sum_jt_r` meets its contract. Assumes nothing.
-use Prim.Native.Nat.{◌-◌}
 use Rattle.loops.proofs.Laws.{begins, loops}
 use Rattle.normal.specs.Normal.{jtr_of}
 use borrow.Author.Rules.{rules}

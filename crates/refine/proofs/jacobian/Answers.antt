@@ -1,5 +1,4 @@
 -- `jacobian` meets its contract. Assumes nothing.
-use Prim.Native.Nat.{◌-◌}
 use borrow.Author.Rules.{rules}
 use Rattle.refine.proofs.Columns.{again_fill, columns}
 use Rattle.refine.proofs.jacobian.Goals as goal

@@ -1,5 +1,4 @@
 -- `put_column` meets its contract. Assumes nothing.
-use Prim.Native.Nat.{◌-◌}
 use Rattle.loops.proofs.Laws.{loops}
 use Rattle.refine.proofs.put_column.Goals as goal
 

@@ -1,5 +1,5 @@
 -- `advance` meets its contract. Assumes nothing.
-use Rattle.std.proofs.Common.{◌-◌, ap, arith}
+use Rattle.std.proofs.Common.{ap, arith}
 use Rattle.search.proofs.Draws.{draw_start, draw_one, all_drawn}
 use Rattle.search.proofs.advance.Goals as goal
 

@@ -1,5 +1,5 @@
 -- `langevin_trajectory` meets its contract. Assumes nothing.
-use Rattle.std.proofs.Common.{◌-◌, ap, ◌∙◌}
+use Rattle.std.proofs.Common.{ap, ◌∙◌}
 use Rattle.loops.specs.Loop.{for}
 use Rattle.loops.proofs.Laws.{ends, loops}
 use Rattle.search.specs.Step.{step_of}

@@ -1,5 +1,5 @@
 -- `search` meets its contract. Assumes nothing.
-use Rattle.std.proofs.Common.{◌-◌, refl, arith}
+use Rattle.std.proofs.Common.{refl, arith}
 use lib.Ieee.{of_bits}
 use Rattle.loops.proofs.Laws.{begins, again, ends}
 use Rattle.float.specs.Ops.{largest}

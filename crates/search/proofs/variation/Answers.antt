@@ -1,5 +1,4 @@
 -- `variation` meets its contract. Assumes nothing.
-use Rattle.std.proofs.Common.{◌-◌}
 use Rattle.loops.proofs.Laws.{loops}
 use Rattle.search.specs.Step.{variation_of}
 use Rattle.search.proofs.variation.Goals as goal

@@ -1,6 +1,5 @@
 -- `observed_periods` meets its contract. Assumes nothing.
 use mathlib.Core.Path.{refl}
-use Prim.Native.Nat.{◌-◌}
 use native.Mathlib.Omega.{arith}
 use Rattle.loops.proofs.Laws.{begins, again, ends, loops}
 use Rattle.pass_set.proofs.Laws.{first_pass, next_pass}

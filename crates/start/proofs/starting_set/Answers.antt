@@ -1,5 +1,4 @@
 -- `starting_set` meets its contract. Assumes nothing.
-use Prim.Native.Nat.{◌-◌}
 use native.Mathlib.Omega.{arith}
 use Rattle.loops.proofs.Laws.{begins, again, ends, loops}
 use Rattle.pass_set.proofs.Laws.{first_pass, next_pass}

@@ -1,6 +1,5 @@
 -- `put` meets its contract. Assumes nothing.
 use mathlib.Core.Path.{refl}
-use Prim.Native.Nat.{◌-◌}
 use borrow.Author.Rules.{rules}
 use Rattle.trials.proofs.Laws.{put_more, put_all}
 use Rattle.trials.proofs.put.Goals as goal

@@ -1,7 +1,6 @@
 -- `refine_trials` meets its contract. The loop's invariant: state, log and count are those of the book after n trials, which still
 -- runs. Each way out ends the book there, and a book that has ended stays as it is. Assumes nothing.
 use mathlib.Core.Path.{refl, sym, ◌∙◌}
-use Prim.Native.Nat.{◌-◌}
 use native.Mathlib.Omega.{arith}
 use borrow.Author.Rules.{rules}
 use lib.ListN.{length-set}

@@ -35,9 +35,9 @@ end l i s h k e =
     let v : visible l ≡ true = sym e ∙ ap (λ (n : ℕ). visible (drop n l)) (le_antisymm h k) ∙ ap visible (drop-length l) ∙ (unfold visible in refl) in
     simp (le-leb _ _ s, v)
 
-pub returns-then-name-gt24 : goal.returns-then-name-gt24
+pub returns-then-name-gt-LONGEST_NAME : goal.returns-then-name-gt-LONGEST_NAME
 unfolding name_fits
-returns-then-name-gt24 c = simp (lt-leb _ _ c.if-name-gt24.true)
+returns-then-name-gt-LONGEST_NAME c = simp (lt-leb _ _ c.if-name-gt-LONGEST_NAME.true)
 
 pub loop-i-init : goal.loop-i-init
 loop-i-init c = record { small = omega arith; turns = omega arith; is = refl }

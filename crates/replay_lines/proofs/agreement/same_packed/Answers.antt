@@ -1,0 +1,8 @@
+use mathlib.Core.Path.{◌∙◌}
+use native.Mathlib.Omega.{arith}
+use Rattle.replay_lines.proofs.Packed.{unpacked}
+use Rattle.replay_lines.proofs.agreement.same_packed.Goals as goal
+
+pub returns : goal.returns
+returns c =
+    c.same_text.ensures ∙ simp (c.first_bytes-stored.ensures, unpacked c.args.fields.now c.bytes.new.out c.args.n (omega arith) c.bytes.ensures, c.first_bytes.ensures)
