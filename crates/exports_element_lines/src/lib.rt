@@ -7,12 +7,15 @@ ghost use Rattle.exports_element_lines.specs.Written.{GivesElements};
 
 use element_lines::Elements;
 
+// The number of an answer that is not refused.
+const TAKEN: u32 = 0;
+
 // Puts an answer's numbers into `out`, and gives its refusal.
 fn put(e: Elements, out: &mut [u64; 6]) -> u32
     ensures { GivesElements e out.old out.new result }
 {
     let n = e.refusal;
-    if n != 0 {
+    if n != TAKEN {
         return n;
     }
     *out = [

@@ -8,12 +8,15 @@ ghost use Rattle.exports_geodetic.specs.Written.{Gives};
 
 use geodetic::Position;
 
+// The number of an answer that is not refused.
+const TAKEN: u32 = 0;
+
 // Puts an answer's place into `out`, and gives its refusal.
 fn put(p: Position, out: &mut [f64; 3]) -> u32
     ensures { Gives p out.old out.new result }
 {
     let n = p.refusal;
-    if n != 0 {
+    if n != TAKEN {
         return n;
     }
     let v = p.ecef;

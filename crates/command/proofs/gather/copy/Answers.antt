@@ -1,5 +1,5 @@
 -- `copy` meets its contract. Assumes nothing.
-use Rattle.std.proofs.Common.{◌-◌, refl, rules}
+use Rattle.std.proofs.Common.{refl, rules}
 use Rattle.command.proofs.Lists.{copy_more, copy_all}
 use Rattle.command.proofs.gather.copy.Goals as goal
 

@@ -1,5 +1,5 @@
 -- `rms` meets its contract. Assumes nothing.
-use Rattle.std.proofs.Common.{◌-◌, refl, arith}
+use Rattle.std.proofs.Common.{refl, arith}
 use lib.Ieee.{of_bits, div}
 use Rattle.loops.proofs.Laws.{begins, again, ends}
 use Rattle.command.proofs.Reports.{many_passes, few_centers, mean}

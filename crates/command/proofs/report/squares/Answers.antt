@@ -1,5 +1,4 @@
 -- `squares` meets its contract. Assumes nothing.
-use Rattle.std.proofs.Common.{◌-◌}
 use Rattle.loops.proofs.Laws.{loops}
 use Rattle.command.specs.Report.{squares_of}
 use Rattle.command.proofs.report.squares.Goals as goal
