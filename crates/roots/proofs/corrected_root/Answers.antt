@@ -58,6 +58,6 @@ returns-then-n-q c = let e = (goal.at.returns-then-n-q c).Else-square-n in
 pub returns-else-n-q : goal.returns-else-n-q
 returns-else-n-q c = let e = (goal.at.returns-else-n-q c).Else-square-n in
     λ _. elim c.if-n-square-2.branch [
-      then-n-square-2 w ↦ subst (λ (r : ℕ). Nearest square (target e) r) (sym w.up-is) (rise (target e) (digits (estimate e)) (n e) (taken e) (balance e) w.if-n-square-2.true c.if-n-square.false)
+      | then-n-square-2 w ↦ subst (λ (r : ℕ). Nearest square (target e) r) (sym w.up-is) (rise (target e) (digits (estimate e)) (n e) (taken e) (balance e) w.if-n-square-2.true c.if-n-square.false)
       | else-n-square-2 w ↦ subst (λ (r : ℕ). Nearest square (target e) r) (sym w.up-is) (stay (target e) (digits (estimate e)) (n e) (taken e) (omega arith) (balance e) c.if-n-q.false w.if-n-square-2.false)
     ]

@@ -1,6 +1,5 @@
 -- `moment::calendar::months_length` meets its contract: `days` are those of the first k months. Assumes nothing.
-use Rattle.std.proofs.Common.{◌-◌, refl, arith}
-use Rattle.moment.specs.Calendar as Calendar
+use Rattle.std.proofs.Common.{refl, arith}
 use Rattle.moment.specs.Calendar.{months_length}
 use Rattle.moment.proofs.Lengths.{months_more, same_months}
 use Rattle.moment.proofs.calendar.months_length.Goals as goal

@@ -1,6 +1,5 @@
 -- `all_in_range` meets its contract: the samples from k on decide what all do. Assumes nothing.
-use Rattle.std.proofs.Common.{◌-◌, get_or, sym, ap, ◌∙◌, w64, rules}
-use borrow.Author.Tests.{not-true, not-false}
+use Rattle.std.proofs.Common.{get_or, sym, ap, ◌∙◌, w64, rules}
 use mir.ValLaws.{to_z-of_z}
 use Rattle.moment.specs.Sample.{time_in_range}
 use Rattle.moment.proofs.Samples.{from_first, from_next, from_fails, from_last}
