@@ -1,6 +1,5 @@
 -- `element_lines::columns::matches` meets its contract: what is left of the line decides. Assumes nothing.
 use mathlib.Core.Path.{refl, sym, ◌∙◌}
-use Prim.Native.Nat.{◌-◌}
 use native.Mathlib.Omega.{arith}
 use Rattle.element_lines.proofs.Matching as matching
 use Rattle.element_lines.proofs.columns.matches.Goals as goal
