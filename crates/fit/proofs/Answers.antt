@@ -31,26 +31,7 @@ use Rattle.arguments.proofs.Laws.{then, roomy, few_kept}
 use Rattle.start.specs.Start.{SampledPasses, radius_estimate}
 use Rattle.start.proofs.Given.{accepted_passes}
 use Rattle.fit.specs.Fit.{Observations, observed, radius, refined, trial_book}
-use Rattle.fit.specs.Answer.{
-  Arguments,
-  observations,
-  pass_count,
-  first_book_of,
-  book_of,
-  work_refusals,
-  fit_refusal,
-  early_refusal,
-  refused_by,
-  fit_found,
-  fit_answer,
-  Outputs,
-  outputs,
-  output_room,
-  filled_outputs,
-  written_outputs,
-  cleared_scratch,
-  Fits,
-}
+use Rattle.fit.specs.Answer.{Arguments, observations, pass_count, first_book_of, book_of, work_refusals, fit_refusal, early_refusal, refused_by, fit_found, fit_answer, Outputs, output_room, filled_outputs, written_outputs, cleared_scratch, Fits}
 use Rattle.fit.specs.Work.{Given, WorkDone, OutputsRoom, Puts}
 use Rattle.fit.specs.declared.Fit.{Fit}
 use Rattle.fit.specs.declared.Solved.{Solved}

@@ -2,14 +2,10 @@
 use mathlib.Core.Path.{◌≡◌, sym}
 use Prim.Native.Nat.{ℕ}
 use lib.ListN.{length, replicate, length-replicate}
-use Rattle.pass_files.proofs.buffer.Statement.{statement}
-use Rattle.pass_files.proofs.buffer.Tie as tie
+use Rattle.pass_files.proofs.buffer.Goals as goal
 
 sized : (n a : ℕ) → n ≡ length (replicate n a)
 sized n a = sym (length-replicate n a)
 
-returns : tie.Need-returns
+pub returns : goal.returns
 returns c = sized 1114113 0
-
-pub buffer-spec : {M : Type 1} → statement M
-buffer-spec = tie.close (tie.spec returns)
