@@ -4,20 +4,17 @@ proved() {
     name=$1
     shift
     called=$(basename "$0")
-    program=$top/target/bin/$name
+    program=$top/crates/$name/out/$name
     rt=$(command -v rt) || { echo "$called: the Rattle kit's rt is not in PATH" >&2; return 1; }
     # What a program is made of: sources, definitions and proofs, not the data of tests.
-    changed=$(find "$top/crates.txt" "$top/crates" -type f \( -name '*.rt' -o -name '*.antt' -o -name crates.txt \) -newer "$program" 2>/dev/null | head -n 1)
+    changed=$(find "$top/crates.txt" "$top/crates" -name out -prune -o -type f \( -name '*.rt' -o -name '*.antt' -o -name crates.txt \) -newer "$program" -print 2>/dev/null | head -n 1)
     if [ ! -x "$program" ] || [ -n "$changed" ]; then
         echo "$called: proving and building" >&2
-        (cd "$top" && "$rt" check "$name") >&2 </dev/null || return 1
+        rm -f "$program"
+        # It is built to be run: once here, on nothing, of which nothing is kept.
+        said=$(cd "$top/crates/$name" && "$rt" run 2>&1 >/dev/null </dev/null)
+        [ -x "$program" ] || { printf '%s\n' "$said" >&2; return 1; }
         touch "$program"
     fi
-    # The kit's own C library, which the program is linked with: the machine's may be older.
-    lib=$(dirname "$(readlink -f "$rt")")/../on/$(uname -m)/toolchain/lib
-    if [ -x "$lib/ld-linux-x86-64.so.2" ]; then
-        "$lib/ld-linux-x86-64.so.2" --library-path "$lib" "$program" "$@"
-    else
-        "$program" "$@"
-    fi
+    "$program" "$@"
 }

@@ -1,4 +1,4 @@
-/* The functions of libexports.a (rt staticlib exports), libexports_geodetic.a and libexports_element_lines.a (the same with their names), for C99, C++11
+/* The functions of libexports.a (./archives exports), libexports_geodetic.a and libexports_element_lines.a (the same with their names), for C99, C++11
  * and other languages that call C. Those of the last two say so; all others are in the first.
  *
  * The quick way is the last part of this file: wisvalom_fit, with one struct for what goes in and one for what comes out. The flat functions
