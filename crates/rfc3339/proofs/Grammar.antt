@@ -14,7 +14,7 @@ use Rattle.decimal.specs.Grammar.{numeral_value}
 use Rattle.decimal.proofs.Grammar.{run_most, run_digits, Stops, letter, letter_stops, at_other, digits_run, value_numeral}
 use Rattle.decimal.proofs.Scan.{present}
 use Rattle.rfc3339.specs.Rfc3339.{place_fits, matches, layout, hour_minute, two_digits, valid_date, valid_time, nanos, numoffset, time_offset, time_secfrac, seconds, date_time, date_time_of}
-use Rattle.rfc3339.specs.Grammar.{pair, full_date, Secfrac, no_secfrac, secfrac, partial_time, Offset, zulu, ahead, behind, DateTime, date_time_lem}
+use Rattle.rfc3339.specs.Grammar.{pair, full_date, Secfrac, no_secfrac, secfrac, partial_time, Offset, zulu, ahead, behind, DateTime, date_and_time}
 use Rattle.rfc3339.specs.declared.Timestamp.{Timestamp}
 use Rattle.rfc3339.specs.declared.Timestamp.TheVariants.{Nothing, At}
 
@@ -258,7 +258,7 @@ date_said (fits_more {c = y1} fy1 (fits_more {c = y2} fy2 (fits_more {c = y3} fy
     made : {r : List ℕ} {v : Timestamp} → valid_date (two y1 y2 * 100 + two y3 y4) (two m1 m2) (two d1 d2) ≡ true → valid_time (two h1 h2) (two i1 i2) (two s1 s2) ≡ true → Rest (seconds (two y1 y2 * 100 + two y3 y4) (two m1 m2) (two d1 d2) (two h1 h2) (two i1 i2) (two s1 s2)) r v → DateTime (y1 ∷ y2 ∷ y3 ∷ y4 ∷ x1 ∷ m1 ∷ m2 ∷ x2 ∷ d1 ∷ d2 ∷ t ∷ h1 ∷ h2 ∷ x3 ∷ i1 ∷ i2 ∷ x4 ∷ s1 ∷ s2 ∷ r) v
     made p q (rest {f = f} {o = o} {n = n} {a = a} {b = b} F O) =
         subst (λ (x : List ℕ). DateTime x (At (seconds (two y1 y2 * 100 + two y3 y4) (two m1 m2) (two d1 d2) (two h1 h2) (two i1 i2) (two s1 s2) + b - a) n)) (text (f ++ o))
-        (date_time_lem t (full_date (pair y1 y2 fy1 fy2) (pair y3 y4 fy3 fy4) (pair m1 m2 fm1 fm2) (pair d1 d2 fd1 fd2) p) (eqb-true (lower t) 116 ft)
+        (date_and_time t (full_date (pair y1 y2 fy1 fy2) (pair y3 y4 fy3 fy4) (pair m1 m2 fm1 fm2) (pair d1 d2 fd1 fd2) p) (eqb-true (lower t) 116 ft)
         (partial_time (pair h1 h2 fh1 fh2) (pair i1 i2 fi1 fi2) (pair s1 s2 fs1 fs2) q F) O)
 
     both : {v : Timestamp} → valid_date (two y1 y2 * 100 + two y3 y4) (two m1 m2) (two d1 d2) ≡ true → valid_time (two h1 h2) (two i1 i2) (two s1 s2) ≡ true → Said (Rest (seconds (two y1 y2 * 100 + two y3 y4) (two m1 m2) (two d1 d2) (two h1 h2) (two i1 i2) (two s1 s2)) r) v → Said (DateTime (y1 ∷ y2 ∷ y3 ∷ y4 ∷ x1 ∷ m1 ∷ m2 ∷ x2 ∷ d1 ∷ d2 ∷ t ∷ h1 ∷ h2 ∷ x3 ∷ i1 ∷ i2 ∷ x4 ∷ s1 ∷ s2 ∷ r)) v
@@ -284,6 +284,6 @@ only_grammar l = go (matches layout l) refl
 -- The scanner takes every text of the grammar for its moment.
 pub all_grammar : {l : List ℕ} {v : Timestamp} → DateTime l v → date_time_of l ≡ v
 unfolding date_time_of date_time matches place_fits
-all_grammar (date_time_lem {o = o} t (full_date (pair y1 y2 fy1 fy2) (pair y3 y4 fy3 fy4) (pair m1 m2 fm1 fm2) (pair d1 d2 fd1 fd2) p) e (partial_time {f = f} (pair h1 h2 fh1 fh2) (pair i1 i2 fi1 fi2) (pair s1 s2 fs1 fs2) q F) O) =
+all_grammar (date_and_time {o = o} t (full_date (pair y1 y2 fy1 fy2) (pair y3 y4 fy3 fy4) (pair m1 m2 fm1 fm2) (pair d1 d2 fd1 fd2) p) e (partial_time {f = f} (pair h1 h2 fh1 fh2) (pair i1 i2 fi1 fi2) (pair s1 s2 fs1 fs2) q F) O) =
     simp (fy1, fy2, fy3, fy4, fm1, fm2, fd1, fd2, eq-eqb (lower t) 116 e, fh1, fh2, fi1, fi2, fs1, fs2, p, q)
     (secfrac_takes (y1 ∷ y2 ∷ y3 ∷ y4 ∷ 45 ∷ m1 ∷ m2 ∷ 45 ∷ d1 ∷ d2 ∷ t ∷ h1 ∷ h2 ∷ 58 ∷ i1 ∷ i2 ∷ 58 ∷ s1 ∷ s2 ∷ (f ++ o)) (seconds (two y1 y2 * 100 + two y3 y4) (two m1 m2) (two d1 d2) (two h1 h2) (two i1 i2) (two s1 s2)) (omega arith) refl F O)

@@ -1,4 +1,4 @@
--- RFC 3339, section 5.6: date_time_lem = full_date "T" full-time. Second 60 is not taken.
+-- RFC 3339, section 5.6: date-time = full-date "T" full-time. Second 60 is not taken.
 use Rattle.std.specs.Prelude.{ℕ, ◌+◌, ◌-◌, ◌*◌, ◌^◌, ◌≤◌, ◌<◌, ◌≡◌, Bool, true, false, ◌&&◌, cond, List, [], ◌∷◌, leb, ltb, eqb, length, get_or, drop}
 use Rattle.text.specs.Text.{bytes, code}
 use Rattle.decimal.specs.Read.{is_digit, digit_run, with_digits, lower}
