@@ -4,17 +4,20 @@ proved() {
     name=$1
     shift
     called=$(basename "$0")
-    program=$top/target/bin/$name
+    program=$top/crates/$name/out/$name
     rt=$(command -v rt) || { echo "$called: the Rattle kit's rt is not in PATH" >&2; return 1; }
     # What a program is made of: sources, definitions and proofs, not the data of tests.
-    changed=$(find "$top/crates.txt" "$top/crates" -type f \( -name '*.rt' -o -name '*.antt' -o -name crates.txt \) -newer "$program" 2>/dev/null | head -n 1)
+    changed=$(find "$top/crates.txt" "$top/crates" -name out -prune -o -type f \( -name '*.rt' -o -name '*.antt' -o -name crates.txt \) -newer "$program" -print 2>/dev/null | head -n 1)
     if [ ! -x "$program" ] || [ -n "$changed" ]; then
         echo "$called: proving and building" >&2
-        (cd "$top" && "$rt" check "$name") >&2 </dev/null || return 1
+        rm -f "$program.stamp"
+        # `rt run` builds what is proved and runs it, here on no words and no input: what that says is left out.
+        (cd "$top/crates/$name" && "$rt" check >&2 && "$rt" run >/dev/null 2>&1) </dev/null
+        [ -e "$program.stamp" ] || return 1
         touch "$program"
     fi
     # The kit's own C library, which the program is linked with: the machine's may be older.
-    lib=$(dirname "$(readlink -f "$rt")")/../on/$(uname -m)/toolchain/lib
+    lib=$(dirname "$(readlink -f "$rt")")/../toolchain/lib
     if [ -x "$lib/ld-linux-x86-64.so.2" ]; then
         "$lib/ld-linux-x86-64.so.2" --library-path "$lib" "$program" "$@"
     else
