@@ -10,11 +10,17 @@ proved() {
     changed=$(find "$top/crates.txt" "$top/crates" -name out -prune -o -type f \( -name '*.rt' -o -name '*.antt' -o -name crates.txt \) -newer "$program" -print 2>/dev/null | head -n 1)
     if [ ! -x "$program" ] || [ -n "$changed" ]; then
         echo "$called: proving and building" >&2
-        rm -f "$program"
-        # It is built to be run: once here, on nothing, of which nothing is kept.
-        said=$(cd "$top/crates/$name" && "$rt" run 2>&1 >/dev/null </dev/null)
-        [ -x "$program" ] || { printf '%s\n' "$said" >&2; return 1; }
+        rm -f "$program.stamp"
+        # `rt run` builds what is proved and runs it, here on no words and no input: what that says is left out.
+        (cd "$top/crates/$name" && "$rt" check >&2 && "$rt" run >/dev/null 2>&1) </dev/null
+        [ -e "$program.stamp" ] || return 1
         touch "$program"
     fi
-    "$program" "$@"
+    # The kit's own C library, which the program is linked with: the machine's may be older.
+    lib=$(dirname "$(readlink -f "$rt")")/../toolchain/lib
+    if [ -x "$lib/ld-linux-x86-64.so.2" ]; then
+        "$lib/ld-linux-x86-64.so.2" --library-path "$lib" "$program" "$@"
+    else
+        "$program" "$@"
+    fi
 }
