@@ -12,3 +12,4 @@ pub mod Halves
 pub mod Binade
 pub mod Logs
 pub mod Powers
+pub mod Doubling

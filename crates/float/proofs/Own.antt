@@ -1,13 +1,12 @@
 -- A value that f64 holds is written in one way, so rounding its own fraction gives it back, and v % c is v for a v below c in size. Assumes nothing.
-use Rattle.std.proofs.Common.{◌≡◌, ℕ, zero, suc, ◌+◌, ◌-◌, ◌*◌, ◌%◌, ◌^◌, ◌<◌, ◌≤◌, Bool, true, false, ◌&&◌, T, eqb, ltb, leb, ℤ, pos, negsuc, sym, refl, ap, ◌∙◌, subst, true≢false, le_of_suc-le-suc, lt_irrefl, add-suc, mod-eq_of_lt, zero-lt-suc, mul_assoc, mul_comm, lt_of_mul-lt-mul_right, mul-lt-mul_of_pos_right, mul-pos, one-mul, pow-suc, lt_of_not-le, zero-mul, mul-one, suc-ne-zero, mul_right_comm, not-le_of_lt, mul_left_comm, arith, lit<, lit≤, eqb→eq, ltb→lt, leb→le, pow_pos, pow-add, ltb-true}
+use Rattle.std.proofs.Common.{◌≡◌, ℕ, zero, suc, ◌+◌, ◌-◌, ◌*◌, ◌%◌, ◌^◌, ◌<◌, ◌≤◌, Bool, true, false, ◌&&◌, T, eqb, ltb, leb, ℤ, pos, negsuc, sym, refl, ap, ◌∙◌, subst, true≢false, le_of_suc-le-suc, lt_irrefl, add-suc, mod-eq_of_lt, zero-lt-suc, mul_assoc, mul_comm, lt_of_mul-lt-mul_right, mul-lt-mul_of_pos_right, mul-pos, one-mul, pow-suc, lt_of_not-le, zero-mul, mul-one, suc-ne-zero, mul_right_comm, not-le_of_lt, mul_left_comm, arith, ne_eqb, lit<, lit≤, eqb→eq, ltb→lt, leb→le, pow_pos, pow-add, ltb-true}
 use native.Mathlib.Nat.{suc_inj, pow-succ', eq_of_mul-eq-mul_right}
 use lib.Pow.{pow-lt}
-use lib.Ieee.{Float, nan, inf, fin, binary64, up, down, fits, round, rem, lt, neg, of_bits}
+use lib.Ieee.{Float, nan, inf, fin, binary64, up, down, fits, round, rem, lt, neg}
 use lib.Ieee.Fits.{and_l, and_r, up_pos, down_pos, round-fits}
 use lib.Ieee.Exact.{HasValue, round_exact}
 use lib.Ieee.Scale.{round_same}
 use Rattle.float.specs.Ops.{◌⊛◌}
-use Rattle.float.specs.Trig.{full}
 
 -- ---- m × 2 ^ a, m odd, has one m and one a
 even_odd : (m t : ℕ) → m % 2 ≡ 1 → m ≡ 2 * t → ⊥
@@ -135,25 +134,33 @@ scaled m e c f h =
     (lt_of_mul-lt-mul_right D (subst (λ (x : ℕ). x < 2 ^ 2098 * D) t (subst (λ (x : ℕ). A * 2 ^ c * 2 ^ 1074 < x) (mul_right_comm (2 ^ 1024) D (2 ^ 1074)) (mul-lt-mul_of_pos_right h (pow_pos 1074)))))
     (t ∙ ap (λ (x : ℕ). m * 2 ^ (j + c) * x) (sym (mul-one D))))
 
--- ---- v % FULL for a v below FULL in size
-zero_rem : (s : Bool) → fin s zero (pos 0) ⊛ full ≡ fin s zero (pos 0)
-unfolding rem round of_bits full
-zero_rem true = refl
-zero_rem false = refl
+-- ---- v % d for a v below d in size
+kept : (s : Bool) (m : ℕ) (e : ℤ) (n : ℕ) (d : ℤ) → T (fits binary64 (fin s m e)) → m * up e * down d < n * up d * down e → fin s m e ⊛ fin false n d ≡ fin s m e
+unfolding rem
+kept s m e zero d f h = absurd (none (m * up e * down d) (zero * up d * down e) (ap (λ (x : ℕ). x * down e) (zero-mul (up d)) ∙ zero-mul (down e)) h)
+  where
+    none : (a c : ℕ) → c ≡ 0 → a < c → ⊥
+    none a c k h = omega arith
+kept s m e (suc n) d f h =
+    let not_zero : eqb (suc n) 0 ≡ false = ne_eqb (suc n) 0 (suc-ne-zero n) in
+    rw not_zero
+    (ap (λ (x : ℕ). round binary64 s x (down e * down d)) (mod-eq_of_lt h)
+    ∙ round_same binary64 s (m * up e * down d) (down e * down d) (m * up e) (down e) (mul-pos (down_pos e) (down_pos d)) (down_pos e)
+    (mul_assoc (m * up e) (down d) (down e) ∙ ap (λ (x : ℕ). m * up e * x) (mul_comm (down d) (down e)))
+    ∙ own s m e f)
 
-own_rem : (s : Bool) (m : ℕ) (e : ℤ) → T (fits binary64 (fin s m e)) → m * up e * 2 ^ 47 < 884279719003555 * down e → fin s m e ⊛ full ≡ fin s m e
-unfolding full
-own_rem s zero e f h = unfold fits in subst (λ (x : ℤ). fin s zero x ⊛ full ≡ fin s zero x) (sym (flat e (eqb→eq (up e * down e) 1 f))) (zero_rem s)
-own_rem s (suc m) e f h = unfold rem of_bits in
-    ap (λ (n : ℕ). round binary64 s n (down e * 2 ^ 47)) (mod-eq_of_lt h)
-    ∙ round_same binary64 s (suc m * up e * 2 ^ 47) (down e * 2 ^ 47) (suc m * up e) (down e) (mul-pos (down_pos e) (lit< tt)) (down_pos e)
-    (mul_assoc (suc m * up e) (2 ^ 47) (down e) ∙ ap (λ (n : ℕ). suc m * up e * n) (mul_comm (2 ^ 47) (down e)))
-    ∙ round_own s m e f
-
-pub small_rem : (v : Float) → T (fits binary64 v) → lt v full ≡ true → lt (neg full) v ≡ true → v ⊛ full ≡ v
-unfolding lt of_bits neg full round
-small_rem nan f p q = absurd (true≢false (sym p))
-small_rem (inf true) f p q = absurd (true≢false (sym q))
-small_rem (inf false) f p q = absurd (true≢false (sym p))
-small_rem (fin false m e) f p q = own_rem false m e f (ltb-true (m * up e * 2 ^ 47) (884279719003555 * down e) p)
-small_rem (fin true m e) f p q = own_rem true m e f (ltb-true (m * up e * 2 ^ 47) (884279719003555 * down e) q)
+pub small_rem : (v d : Float) → T (fits binary64 v) → lt v d ≡ true → lt (neg d) v ≡ true → v ⊛ d ≡ v
+unfolding lt neg rem
+small_rem nan d f p q = absurd (true≢false (sym p))
+small_rem (inf s) nan f p q = absurd (true≢false (sym p))
+small_rem (inf true) (inf true) f p q = absurd (true≢false (sym p))
+small_rem (inf true) (inf false) f p q = absurd (true≢false (sym q))
+small_rem (inf false) (inf t) f p q = absurd (true≢false (sym p))
+small_rem (inf true) (fin t n d) f p q = absurd (true≢false (sym q))
+small_rem (inf false) (fin t n d) f p q = absurd (true≢false (sym p))
+small_rem (fin s m e) nan f p q = absurd (true≢false (sym p))
+small_rem (fin s m e) (inf t) f p q = refl
+small_rem (fin false m e) (fin true n d) f p q = absurd (true≢false (sym p))
+small_rem (fin true m e) (fin true n d) f p q = absurd (true≢false (sym q))
+small_rem (fin false m e) (fin false n d) f p q = kept false m e n d f (ltb-true (m * up e * down d) (n * up d * down e) p)
+small_rem (fin true m e) (fin false n d) f p q = kept true m e n d f (ltb-true (m * up e * down d) (n * up d * down e) q)

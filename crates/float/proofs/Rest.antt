@@ -38,7 +38,7 @@ Times m e x = (m * up e * 2 ^ 50 ≡ x * down e) × (x < 2 ^ 63) × HasValue (fi
 cut_exact : (a : Float) (x : ℕ) → x < 2 ^ 63 → HasValue a false x 1 → to_unsigned 64 a ≡ x
 cut_exact a x h v = cut_value a x 1 (lit< tt) (lt_trans h (lit< tt)) v ∙ div-one x
 
-mod_scale : (a b c : ℕ) → 0 < b → 0 < c → (a * c) % (b * c) ≡ (a % b) * c
+pub mod_scale : (a b c : ℕ) → 0 < b → 0 < c → (a * c) % (b * c) ≡ (a % b) * c
 mod_scale a b c B C =
     mod-mul (a * c) B C ∙ ap (λ (n : ℕ). (n % b) * c + a * c % c) (mul-div_cancel a C)
     ∙ ap (λ (n : ℕ). (a % b) * c + n) (mul-mod_left a c) ∙ add-zero ((a % b) * c)

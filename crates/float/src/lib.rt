@@ -3,6 +3,7 @@
 
 pub mod cast;
 pub mod log;
+pub mod remainder;
 pub mod trig;
 pub mod word;
 
@@ -64,7 +65,7 @@ pub fn signum(v: f64) -> f64
 pub fn rem_euclid(v: f64, d: f64) -> f64
     ensures { result ≡ rem_euclid_of v d }
 {
-    let r = v % d;
+    let r = remainder::remainder(v, d);
     if r < 0.0 { r + d } else { r }
 }
 

@@ -103,7 +103,7 @@ fn turn_rest(v: f64) -> f64
             return whole_rest(v);
         }
     }
-    v % FULL
+    crate::remainder::remainder(v, FULL)
 }
 
 fn reduce(v: f64) -> Reduced
