@@ -102,7 +102,8 @@ fn third(lat: Number, lon: Number, l: &[u8]) -> Position
     ensures { result ≡ Spec.from_numbers (lat ∷ lon ∷ map number (Spec.fields_of l.now)) }
 {
     let k = pieces::until(b',', l);
-    if k != l.len() {
+    let end = l.len();
+    if k != end {
         return super::refused(refusal::POSITION_RANGE);
     }
     place(lat, lon, field(&l[..k]))
