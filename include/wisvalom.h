@@ -25,8 +25,6 @@
  *
  * The floating-point environment must be the one that a program starts with: rounding to nearest, subnormal numbers kept. A host that
  * changes it (fesetround, flush-to-zero or denormals-are-zero, which gcc's -ffast-math sets at a program's start) gets other numbers.
- *
- * Link with the C library's mathematics (-lm): the remainder of a float is its fmod.
  */
 #ifndef WISVALOM_H
 #define WISVALOM_H
