@@ -1,5 +1,5 @@
 #!/usr/bin/env python3
-"""Brings the repository's own definitions, lemmas and record fields to snake case, after /opt/rattle/port/port.py.
+"""Brings the repository's own definitions, lemmas and record fields to snake case, after the kit's port/port.py.
 
 usage: python3 tools/respell.py [--list]     at the top of the repository, once
 
