@@ -5,13 +5,13 @@ use Rattle.std.proofs.lemmas.Bool.{ltb-false, le-ltb}
 use Rattle.std.proofs.Math.Nat.{add-mul-mod_self_right, eq_of_mul-eq-mul_right, mul-sub, sub-add_cancel}
 use native.Mathlib.Decide.{dec_le}
 use borrow.Author.Tests.{ne_eqb}
-use lib.Ieee.{Float, nan, inf, fin, binary64, up, down, lt, fits, round, rem, add, sub, mul, div, neg, sum, of_bits}
+use lib.Ieee.{Float, nan, inf, fin, binary64, up, down, lt, fits, round, rem, add, sub, mul, neg, sum, of_bits}
 use lib.Ieee.Fits.{up_pos, down_pos}
 use lib.Ieee.Exact.{HasValue, round_exact}
 use lib.Ieee.Scale.{round_same}
-use Rattle.float.specs.Ops.{◌⊕◌, ◌⊖◌, ◌⊗◌, ◌⊘◌, ◌⊛◌, bits}
+use Rattle.float.specs.Ops.{◌⊕◌, ◌⊖◌, ◌⊗◌, ◌⊛◌, bits}
 use Rattle.float.proofs.Own.{few, places, own, held}
-use Rattle.float.proofs.Rest.{mod_scale}
+use Rattle.float.proofs.Rest.{mod_scale, same_mod}
 use Rattle.float.proofs.Rounding.{neg_round}
 
 -- ---- x is q × 2^j of the format's smallest values, and q has 53 digits
@@ -36,7 +36,7 @@ moved (fin t m e) s num c w l p h v = (
 )
 
 -- what an operation rounds is exact
-pub made : (num c q j : ℕ) → 0 < c → q < 2 ^ 53 → q * 2 ^ j < 2 ^ 2098 → num * 2 ^ 1074 ≡ q * 2 ^ j * c → Units (round binary64 false num c) q j
+made : (num c q j : ℕ) → 0 < c → q < 2 ^ 53 → q * 2 ^ j < 2 ^ 2098 → num * 2 ^ 1074 ≡ q * 2 ^ j * c → Units (round binary64 false num c) q j
 made num c q j p d b h =
     record {
       value = moved (round binary64 false num c) false num c (q * 2 ^ j) (2 ^ 1074) p h (round_exact binary64 false num c q j p d b h);
@@ -53,7 +53,7 @@ least_most (suc m) e j f h =
     let x : 2 ^ 1024 * down e * 2 ^ 1074 ≡ 2 ^ 2098 * down e = mul_right_comm (2 ^ 1024) (down e) (2 ^ 1074) in
     lt_of_mul-lt-mul_right (down e) (subst (λ (n : ℕ). n < 2 ^ 2098 * down e) h (subst (λ (n : ℕ). suc m * up e * 2 ^ 1074 < n) x w))
 
-pub of_fin : (m : ℕ) (e : ℤ) → T (fits binary64 (fin false m e)) → (j : ℕ) × Units (fin false m e) m j
+of_fin : (m : ℕ) (e : ℤ) → T (fits binary64 (fin false m e)) → (j : ℕ) × Units (fin false m e) m j
 of_fin m e f =
     let k = few false m e f in
     let w = places e k.1 in
@@ -87,7 +87,7 @@ sides m e U c h = mul_right_comm (m * up e) c (2 ^ 1074) ∙ ap (λ (n : ℕ). n
 sides' : (m : ℕ) (e : ℤ) (U : ℕ) (c : ℕ) → m * up e * 2 ^ 1074 ≡ U * down e → m * up e * c * 2 ^ 1074 ≡ U * (c * down e)
 sides' m e U c h = sides m e U c h ∙ ap (λ (n : ℕ). U * n) (mul_comm (down e) c)
 
-pub below : (x y : Float) (q j p i : ℕ) → Units x q j → Units y p i → lt x y ≡ true → q * 2 ^ j < p * 2 ^ i
+below : (x y : Float) (q j p i : ℕ) → Units x q j → Units y p i → lt x y ≡ true → q * 2 ^ j < p * 2 ^ i
 unfolding lt
 below nan y q j p i a b h = absurd a.value
 below (inf s) y q j p i a b h = absurd a.value
@@ -99,7 +99,7 @@ below (fin false m e) (fin false n d) q j p i a b h =
     cross (m * up e * down d) (n * up d * down e) (q * 2 ^ j) (p * 2 ^ i) (down e * down d) (2 ^ 1074) (pow_pos 1074) (mul-pos (down_pos e) (down_pos d))
     (sides m e (q * 2 ^ j) (down d) a.value.1) (sides' n d (p * 2 ^ i) (down e) b.value.1) (ltb-true (m * up e * down d) (n * up d * down e) h)
 
-pub above : (x y : Float) (q j p i : ℕ) → Units x q j → Units y p i → lt x y ≡ false → p * 2 ^ i ≤ q * 2 ^ j
+above : (x y : Float) (q j p i : ℕ) → Units x q j → Units y p i → lt x y ≡ false → p * 2 ^ i ≤ q * 2 ^ j
 unfolding lt
 above nan y q j p i a b h = absurd a.value
 above (inf s) y q j p i a b h = absurd a.value
@@ -115,7 +115,7 @@ above (fin false m e) (fin false n d) q j p i a b h =
 twice_sum : (a l U c : ℕ) → a * l ≡ U * c → (a + a) * l ≡ U * 2 * c
 twice_sum a l U c h = omega (arith, h)
 
-pub doubled : (s : Float) (q j : ℕ) → Units s q j → q * 2 ^ (j + 1) < 2 ^ 2098 → Units (s ⊕ s) q (j + 1)
+doubled : (s : Float) (q j : ℕ) → Units s q j → q * 2 ^ (j + 1) < 2 ^ 2098 → Units (s ⊕ s) q (j + 1)
 unfolding add sum
 doubled nan q j a b = absurd a.value
 doubled (inf t) q j a b = absurd a.value
@@ -130,7 +130,7 @@ doubled (fin false m e) q j a b =
 half_fact : (a l U d : ℕ) → a * l ≡ U * 2 * d → a * 1 * l ≡ U * (d * 2)
 half_fact a l U d h = ap (λ (n : ℕ). n * l) (mul-one a) ∙ h ∙ mul_assoc U 2 d ∙ ap (λ (n : ℕ). U * n) (mul_comm 2 d)
 
-pub halved : (s : Float) (q j : ℕ) → Units s q (j + 1) → Units (s ⊗ bits 0x3fe0000000000000) q j
+halved : (s : Float) (q j : ℕ) → Units s q (j + 1) → Units (s ⊗ bits 0x3fe0000000000000) q j
 unfolding mul of_bits
 halved nan q j a = absurd a.value
 halved (inf t) q j a = absurd a.value
@@ -145,7 +145,7 @@ halved (fin false m e) q j a =
     grow a b h = omega arith
 
 -- ---- the difference of two of which one is at most twice the other
-pub record Near (R S : ℕ) : Type 0 where
+record Near (R S : ℕ) : Type 0 where
   pub digits : ℕ
   pub places : ℕ
   pub few : digits < 2 ^ 53
@@ -188,7 +188,7 @@ near p i q j dp dq l u = go (dec_le j i)
           is = sub_mul p (q * 2 ^ t) (2 ^ i) ∙ ap (λ (n : ℕ). p * 2 ^ i - n) w;
         }
 
-pub taken : (r s : Float) (p i q j : ℕ) → Units r p i → Units s q j → q * 2 ^ j ≤ p * 2 ^ i → p * 2 ^ i < q * 2 ^ j * 2
+taken : (r s : Float) (p i q j : ℕ) → Units r p i → Units s q j → q * 2 ^ j ≤ p * 2 ^ i → p * 2 ^ i < q * 2 ^ j * 2
     → (n : Near (p * 2 ^ i) (q * 2 ^ j)) × Units (r ⊖ s) n.digits n.places
 unfolding sub add neg sum
 taken nan s p i q j a b l u = absurd a.value
@@ -217,7 +217,7 @@ taken (fin false m e) (fin false n d) p i q j a b l u =
     both a b x y w h k = rw (h, k)
 
 -- ---- the law: what has the remainder's units is the remainder
-pub is_rem : (v d r : Float) (p i q j u k : ℕ) → Units v p i → Units d q j → Units r u k → 0 < q * 2 ^ j → u * 2 ^ k ≡ p * 2 ^ i % (q * 2 ^ j) → r ≡ v ⊛ d
+is_rem : (v d r : Float) (p i q j u k : ℕ) → Units v p i → Units d q j → Units r u k → 0 < q * 2 ^ j → u * 2 ^ k ≡ p * 2 ^ i % (q * 2 ^ j) → r ≡ v ⊛ d
 unfolding rem
 is_rem nan d r p i q j u k a b c z h = absurd a.value
 is_rem (inf t) d r p i q j u k a b c z h = absurd a.value
@@ -240,9 +240,6 @@ is_rem (fin false m e) (fin false (suc n) d) r p i q j u k a b c z h =
     sym (mod_scale (p * 2 ^ i) (q * 2 ^ j) D z pd) ∙ same_mod (p * 2 ^ i * D) (A * 2 ^ 1074) (q * 2 ^ j * D) (B * 2 ^ 1074) (sym wa) (sym wb) ∙ mod_scale A B (2 ^ 1074) pb (pow_pos 1074) in
     let not_zero : eqb (suc n) 0 ≡ false = ne_eqb (suc n) 0 (suc-ne-zero n) in
     rw not_zero (c.is ∙ ap (λ (x : ℕ). round binary64 false x (2 ^ 1074)) h ∙ round_same binary64 false (p * 2 ^ i % (q * 2 ^ j)) (2 ^ 1074) (A % B) D (pow_pos 1074) pd t)
-  where
-    same_mod : (a b c d : ℕ) → a ≡ b → c ≡ d → a % c ≡ b % d
-    same_mod a b c d h k = rw (h, k)
 
 -- ---- the two loops: the divisor d doubled n times, at most v; and back
 pub record Up (v d s : Float) (n : ℕ) : Type 0 where
@@ -290,12 +287,12 @@ huge_units = made_of
 times_two : (q j n : ℕ) → q * 2 ^ (j + n) ≡ q * 2 ^ j * 2 ^ n
 times_two q j n = ap (λ (x : ℕ). q * x) (pow-add 2 j n) ∙ sym (mul_assoc q (2 ^ j) (2 ^ n))
 
+one_more : (j n : ℕ) → j + (n + 1) ≡ j + n + 1
+one_more j n = omega arith
+
 next_two : (q j n : ℕ) → q * 2 ^ (j + (n + 1)) ≡ q * 2 ^ (j + n) * 2
 next_two q j n =
-    ap (λ (x : ℕ). q * 2 ^ x) (there j n) ∙ times_two q (j + n) 1
-  where
-    there : (j n : ℕ) → j + (n + 1) ≡ j + n + 1
-    there j n = omega arith
+    ap (λ (x : ℕ). q * 2 ^ x) (one_more j n) ∙ times_two q (j + n) 1
 
 pub few_turns : {v d s : Float} {n : ℕ} → Up v d s n → n < 2098
 few_turns {n = n} a = go (dec_le 2098 n)
@@ -323,10 +320,7 @@ room : (s : Float) (q j : ℕ) → Units s q j → lt s huge ≡ true → q * 2 
 room s q j a h = subst (λ (x : ℕ). x < 2 ^ 2098) (sym (next_two q j 0 ∙ ap (λ (x : ℕ). q * 2 ^ x * 2) (add-zero j))) (mul-lt-mul_of_pos_right (below s huge q j 1 2097 a huge_units h) (lit< tt))
 
 twice : {v d s : Float} {n : ℕ} → (a : Up v d s n) → lt s huge ≡ true → Units (s ⊕ s) a.q (a.j + (n + 1))
-twice {s = s} {n = n} a h = subst (Units (s ⊕ s) a.q) (there a.j n) (doubled s a.q (a.j + n) a.multiple (room s a.q (a.j + n) a.multiple h))
-  where
-    there : (j n : ℕ) → j + n + 1 ≡ j + (n + 1)
-    there j n = omega arith
+twice {s = s} {n = n} a h = subst (Units (s ⊕ s) a.q) (sym (one_more a.j n)) (doubled s a.q (a.j + n) a.multiple (room s a.q (a.j + n) a.multiple h))
 
 pub go_up : {v d s : Float} {n : ℕ} → Up v d s n → (lt s huge && not (lt v (s ⊕ s))) ≡ true → Up v d (s ⊕ s) (n + 1)
 go_up {v = v} {s = s} {n = n} a h =
@@ -379,11 +373,8 @@ go_down {v} {d} {r} {s} {n} a = go (lt r h) refl
     h : Float
     h = s ⊗ bits 0x3fe0000000000000
 
-    there : (j n : ℕ) → j + (n + 1) ≡ j + n + 1
-    there j n = omega arith
-
     m : Units h a.q (a.j + n)
-    m = halved s a.q (a.j + n) (subst (Units s a.q) (there a.j n) a.multiple)
+    m = halved s a.q (a.j + n) (subst (Units s a.q) (one_more a.j n) a.multiple)
 
     S : ℕ
     S = a.q * 2 ^ (a.j + n)
@@ -478,14 +469,6 @@ at_bottom {v} {d} {r} {s} a =
     is_rem v d r a.p a.i a.q a.j a.u a.k a.dividend a.divisor a.rest a.some (sym (mod-eq_of_lt l) ∙ a.same)
 
 -- ---- the signs, and what has no remainder
-pub endless : bits 0x3ff0000000000000 ⊘ bits 0 ≡ bits 0x7ff0000000000000
-unfolding div of_bits
-endless = refl
-
-pub no_number : bits 0 ⊘ bits 0 ≡ nan
-unfolding div of_bits
-no_number = refl
-
 pub no_size : (v d : Float) → lt (bits 0) d ≡ true → lt v d ≡ false → lt v (bits 0x7ff0000000000000) ≡ false → nan ≡ v ⊛ d
 unfolding lt of_bits rem
 no_size nan d p h k = refl

@@ -38,6 +38,9 @@ Times m e x = (m * up e * 2 ^ 50 ≡ x * down e) × (x < 2 ^ 63) × HasValue (fi
 cut_exact : (a : Float) (x : ℕ) → x < 2 ^ 63 → HasValue a false x 1 → to_unsigned 64 a ≡ x
 cut_exact a x h v = cut_value a x 1 (lit< tt) (lt_trans h (lit< tt)) v ∙ div-one x
 
+pub same_mod : (a b c d : ℕ) → a ≡ b → c ≡ d → a % c ≡ b % d
+same_mod a b c d p q = cc
+
 pub mod_scale : (a b c : ℕ) → 0 < b → 0 < c → (a * c) % (b * c) ≡ (a % b) * c
 mod_scale a b c B C =
     mod-mul (a * c) B C ∙ ap (λ (n : ℕ). (n % b) * c + a * c % c) (mul-div_cancel a C)
@@ -49,15 +52,12 @@ same_rest : (A D X : ℕ) → 0 < D → A * 2 ^ 50 ≡ X * D
 same_rest A D X P h =
     let l : (A * 2 ^ 47 % (884279719003555 * D)) * 8 ≡ (X % 7074237752028440) * D =
     sym (mod_scale (A * 2 ^ 47) (884279719003555 * D) 8 (mul-pos (lit< tt) P) (lit< tt))
-    ∙ cong2 (A * 2 ^ 47 * 8) (X * D) (884279719003555 * D * 8) (7074237752028440 * D) (omega (arith, h)) (omega arith)
+    ∙ same_mod (A * 2 ^ 47 * 8) (X * D) (884279719003555 * D * 8) (7074237752028440 * D) (omega (arith, h)) (omega arith)
     ∙ mod_scale X 7074237752028440 D (lit< tt) P in
     lift (A * 2 ^ 47 % (884279719003555 * D)) (X % 7074237752028440) l
   where
     lift : (u w : ℕ) → u * 8 ≡ w * D → u * 2 ^ 50 ≡ w * (D * 2 ^ 47)
     lift u w p = let q : u * 2 ^ 50 ≡ w * D * 2 ^ 47 = omega (arith, p) in q ∙ mul_assoc w D (2 ^ 47)
-
-    cong2 : (a b c d : ℕ) → a ≡ b → c ≡ d → a % c ≡ b % d
-    cong2 a b c d p q = cc
 
 to_whole : (y : Float) (num D x : ℕ) → 0 < D → num ≡ x * D → HasValue y false num D → HasValue y false x 1
 to_whole nan num D x P h v = absurd v

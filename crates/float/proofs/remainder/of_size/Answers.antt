@@ -1,9 +1,11 @@
-use Rattle.std.proofs.Common.{◌∙◌}
-use Rattle.float.proofs.Doubling.{endless, no_number, no_size}
+use lib.Ieee.{of_bits, div}
+use Rattle.float.proofs.Doubling.{no_size}
 use Rattle.float.proofs.remainder.of_size.Goals as goal
 
 pub by_steps-requires : goal.by_steps-requires
-by_steps-requires c = (c.requires.0, c.requires.1, rw endless at c.if-v.true)
+unfolding of_bits div
+by_steps-requires c = (c.requires.0, c.requires.1, c.if-v.true)
 
 pub returns : goal.returns
-returns c = no_number ∙ no_size c.args.v c.args.d c.requires.0 c.requires.1 (rw endless at c.if-v.false)
+unfolding of_bits div
+returns c = no_size _ _ c.requires.0 c.requires.1 c.if-v.false

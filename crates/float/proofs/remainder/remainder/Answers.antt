@@ -1,5 +1,6 @@
+use lib.Ieee.{of_bits, div}
 use Rattle.std.proofs.Common.{◌∙◌}
-use Rattle.float.proofs.Doubling.{no_number, no_divisor, of_neg, neg_positive}
+use Rattle.float.proofs.Doubling.{no_divisor, of_neg, neg_positive}
 use Rattle.float.proofs.remainder.remainder.Goals as goal
 
 pub of_sign-requires-then-d-2 : goal.of_sign-requires-then-d-2
@@ -9,4 +10,5 @@ pub returns-then-d-2 : goal.returns-then-d-2
 returns-then-d-2 c = c.of_sign-then-d-2.ensures ∙ of_neg c.args.v c.args.d
 
 pub returns : goal.returns
-returns c = no_number ∙ no_divisor c.args.v c.args.d c.if-d.false c.if-d-2.false
+unfolding of_bits div
+returns c = no_divisor _ _ c.if-d.false c.if-d-2.false
