@@ -1,17 +1,16 @@
 -- The Julian date (Meeus, Astronomical Algorithms, chapter 7), in the Rust's order.
-use Rattle.std.specs.Prelude.{ℕ, ◌-◌, ◌/◌, ◌%◌, cond, not, [], ◌∷◌, leb, Float}
+use Rattle.std.specs.Prelude.{ℕ, ◌-◌, ◌/◌, ◌%◌, cond, not, [], ◌∷◌, leb, Float, Result}
 use Rattle.float.specs.Constant.{decimal}
 use Rattle.float.specs.Ops.{◌⊕◌, ◌⊖◌, ◌⊗◌, ◌⊘◌, floor_of, of_nat}
-use Rattle.refusal.specs.Numbers as refusal
-use Rattle.refusal.specs.Order.{first, ◌if◌, unless}
+use Rattle.refusal.specs.Refusals.{first_of, ◌when◌, answer}
+use Rattle.refusal.specs.declared.Refusal.{Refusal}
+use Rattle.refusal.specs.declared.Refusal.TheVariants.{MomentRange}
 use Rattle.moment.specs.Origin.{per_day, march1956}
 use Rattle.moment.specs.Time.{seconds_of}
 use Rattle.moment.specs.Range.{taken}
 use Rattle.moment.specs.Calendar.{date_of}
 use Rattle.moment.specs.declared.Moment.{Moment}
 use Rattle.moment.specs.declared.calendar.Date.{Date}
-use Rattle.frame.specs.declared.JulianDate.{JulianDate}
-use Rattle.frame.specs.declared.JulianDate.TheVariants.{At, Refused}
 
 -- the part of a day after so many seconds and nanoseconds
 unfoldable pub day_fraction : ℕ → ℕ → Float
@@ -37,5 +36,5 @@ jd_of d part =
 unfoldable pub jd_at : ℕ → ℕ → Float
 jd_at secs nanos = let s = secs - march1956 in jd_of (date_of (s / per_day)) (day_fraction (s % per_day) nanos)
 
-unfoldable pub datetime_to_jd_of : Moment → JulianDate
-datetime_to_jd_of m = unless Refused (first ((refusal.moment_range if not (taken m)) ∷ [])) (At (jd_at (seconds_of m.seconds) m.nanos))
+unfoldable pub datetime_to_jd_of : Moment → Result Float Refusal
+datetime_to_jd_of m = answer (first_of ((MomentRange when not (taken m)) ∷ [])) (jd_at (seconds_of m.seconds) m.nanos)

@@ -9,7 +9,8 @@ ghost use Rattle.moment.specs.Origin.{march1956, march2096};
 
 use float::trig::SinCos;
 use moment::calendar::Date;
-use moment::{Given, Instant, Moment};
+use moment::{Instant, Moment};
+use refusal::Refusal;
 
 #[derive(Clone, Copy)]
 pub struct Vec3 {
@@ -27,13 +28,6 @@ pub struct State {
     pub vx: f64,
     pub vy: f64,
     pub vz: f64,
-}
-
-// A Julian date, or the number of a refusal.
-#[derive(Clone, Copy)]
-pub enum JulianDate {
-    At(f64),
-    Refused(u32),
 }
 
 // The Julian date of a day's part, of the year and month counted as Meeus does: January and February
@@ -84,14 +78,12 @@ pub fn jd_at(t: Instant) -> f64
     )
 }
 
-// Julian date of a moment.
-pub fn datetime_to_jd(dt: Moment) -> JulianDate
+// Julian date of a moment. Refused: 4, it is outside 1957 to 2056.
+pub fn datetime_to_jd(dt: Moment) -> Result<f64, Refusal>
     ensures { result ≡ datetime_to_jd_of dt }
 {
-    let Given::At(t) = moment::instant_of(dt) else {
-        return JulianDate::Refused(refusal::MOMENT_RANGE);
-    };
-    JulianDate::At(jd_at(t))
+    let t = Instant::try_from(dt)?;
+    Ok(jd_at(t))
 }
 
 // Greenwich mean sidereal angle in degrees.
@@ -117,8 +109,8 @@ pub fn rotated(r: SinCos, s: State) -> State
     let x = s.x * r.cos + s.y * r.sin;
     let y = -s.x * r.sin + s.y * r.cos;
     State {
-        x: x,
-        y: y,
+        x,
+        y,
         z: s.z,
         vx: (s.vx * r.cos + s.vy * r.sin) + 7.2921151467e-5 * y,
         vy: (-s.vx * r.sin + s.vy * r.cos) - 7.2921151467e-5 * x,

@@ -1,5 +1,5 @@
 -- The days before a year and a month, by the calendar's rule and by the sum that the code works out. Assumes nothing.
-use Rattle.std.proofs.Common.{◌≡◌, ℕ, zero, suc, ◌+◌, ◌*◌, ◌/◌, ◌%◌, ◌≤◌, Bool, true, false, cond, eqb, sym, refl, ap, ◌∙◌, subst, add-one, arith, lit≤, eqb-true}
+use Rattle.std.proofs.Common.{◌≡◌, ℕ, zero, suc, ◌+◌, ◌*◌, ◌/◌, ◌%◌, ◌≤◌, Bool, true, false, cond, eqb, sym, refl, ap, ◌∙◌, subst, add-one, arith, lit≤, eqb-true, ne_eqb, ◌⊎◌, inl, inr}
 use borrow.Author.Tests.{eqb-false}
 use Rattle.moment.specs.Calendar.{leap, year_length, month_length, months_length, days_to_year, Month, Months}
 
@@ -76,3 +76,17 @@ years (suc y) = let h = years y in let g = next_year y in let e : suc y ≡ y + 
 
 pub years_most : (y : ℕ) → days_to_year y ≤ 366 * y
 years_most y = omega (arith, years y)
+
+thirty_of : (l : Bool) (m : ℕ) → (m ≡ 4) ⊎ (m ≡ 6) ⊎ (m ≡ 9) ⊎ (m ≡ 11) → 30 ≡ month_length l m
+unfolding month_length
+thirty_of l m (inl e) = rw e refl
+thirty_of l m (inr (inl e)) = rw e refl
+thirty_of l m (inr (inr (inl e))) = rw e refl
+thirty_of l m (inr (inr (inr e))) = rw e refl
+
+pub thirty : (l : Bool) (m : ℕ) → (m ≡ 4) ⊎ (m ≡ 6) ⊎ (m ≡ 9) ⊎ (m ≡ 11) → Month l m 30
+thirty l m h = record { is = thirty_of l m h; most = omega arith }
+
+pub other : (l : Bool) (m : ℕ) → (m ≡ 2 → ⊥) → (m ≡ 4 → ⊥) → (m ≡ 6 → ⊥) → (m ≡ 9 → ⊥) → (m ≡ 11 → ⊥) → Month l m 31
+unfolding month_length
+other l m a b d e f = record { is = simp (ne_eqb m 2 a, ne_eqb m 4 b, ne_eqb m 6 d, ne_eqb m 9 e, ne_eqb m 11 f); most = omega arith }

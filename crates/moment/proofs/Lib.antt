@@ -8,5 +8,6 @@ pub mod Lengths
 pub mod Numbers
 pub mod Samples
 pub mod Shifts
+mod Units
 pub mod Origins
 pub mod Examples

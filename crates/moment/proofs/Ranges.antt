@@ -1,36 +1,44 @@
 -- What the tests of `instant_of` say. Assumes nothing.
-use Rattle.std.proofs.Common.{◌≡◌, ℕ, ◌<◌, ◌≤◌, Bool, true, false, cond, ◌&&◌, ltb, leb, ℤ, sym, refl, ap, subst, arith, ltb-true, le-ltb, lt-ltb, le-leb, leb-true}
+use Rattle.std.proofs.Common.{◌≡◌, ℕ, ◌<◌, ◌≤◌, Bool, true, false, not, ◌&&◌, [], ◌∷◌, Ok, Err, ltb, leb, ℤ, sym, refl, ap, subst, arith, ltb-true, le-ltb, lt-ltb, le-leb, leb-true}
+use mathlib.Core.Logic.{◌⊎◌, inl, inr}
 use borrow.Author.Tests.{lt-leb}
 use Rattle.laws.proofs.Tests.{and_true}
 use Rattle.moment.specs.Origin.{start1957, start2057}
 use Rattle.moment.specs.Time.{seconds_of}
 use Rattle.moment.specs.Range.{in_range, given_of, Within}
 use Rattle.moment.specs.declared.Instant.{Instant}
-use Rattle.moment.specs.declared.Given.{Given}
-use Rattle.moment.specs.declared.Given.TheVariants.{At, Outside}
+use Rattle.refusal.specs.Refusals.{first_of, ◌when◌, answer}
+use Rattle.refusal.specs.declared.Refusal.{Refusal}
+use Rattle.refusal.specs.declared.Refusal.TheVariants.{MomentRange}
 
 module _ (s : ℤ) (n k : ℕ) (e : k ≡ seconds_of s) where
-  pub early : k < start1957 → Outside ≡ given_of s n
-  unfolding given_of
+  early : k < start1957 → in_range s n ≡ false
+  unfolding in_range
   early h = simp (lt-leb start1957 (seconds_of s) (subst (λ (x : ℕ). x < start1957) e h))
 
-  pub late : start1957 ≤ k → start2057 ≤ k → Outside ≡ given_of s n
-  unfolding given_of
+  late : start1957 ≤ k → start2057 ≤ k → in_range s n ≡ false
+  unfolding in_range
   late h l = simp (
     le-leb start1957 (seconds_of s) (subst (λ (x : ℕ). start1957 ≤ x) e h),
     le-ltb (seconds_of s) start2057 (subst (λ (x : ℕ). start2057 ≤ x) e l),
   )
 
-  pub long : start1957 ≤ k → k < start2057 → 1000000000 ≤ n → Outside ≡ given_of s n
-  unfolding given_of
+  long : start1957 ≤ k → k < start2057 → 1000000000 ≤ n → in_range s n ≡ false
+  unfolding in_range
   long h l m = simp (
     le-leb start1957 (seconds_of s) (subst (λ (x : ℕ). start1957 ≤ x) e h),
     lt-ltb (seconds_of s) start2057 (subst (λ (x : ℕ). x < start2057) e l),
     le-ltb n 1000000000 m,
   )
 
-  pub within : start1957 ≤ k → k < start2057 → n < 1000000000 → At (record { secs = k; nanos = n }) ≡ given_of s n
+  pub beyond : ((start1957 ≤ k × k < start2057 × 1000000000 ≤ n) ⊎ (start1957 ≤ k × start2057 ≤ k) ⊎ k < start1957) → Err MomentRange ≡ given_of s n
   unfolding given_of
+  beyond (inl h) = simp (long h.0 h.1 h.2)
+  beyond (inr (inl h)) = simp (late h.0 h.1)
+  beyond (inr (inr h)) = simp (early h)
+
+  pub within : start1957 ≤ k → k < start2057 → n < 1000000000 → Ok (record { secs = k; nanos = n }) ≡ given_of s n
+  unfolding given_of in_range
   within h l m = simp (
     e,
     le-leb start1957 (seconds_of s) (subst (λ (x : ℕ). start1957 ≤ x) e h),
@@ -53,38 +61,25 @@ accepted_at s n h =
     let b = and_true (ltb (seconds_of s) start2057) (ltb n 1000000000) a.1 in
     record { low = omega (arith, leb-true start1957 (seconds_of s) a.0); high = omega (arith, ltb-true (seconds_of s) start2057 b.0); part = ltb-true n 1000000000 b.1 }
 
-pub at_is : (s : ℤ) (n : ℕ) (i : Instant) → At i ≡ given_of s n → Is s n i.secs i.nanos
+pub at_is : (s : ℤ) (n : ℕ) (i : Instant) → Ok i ≡ given_of s n → Is s n i.secs i.nanos
 unfolding given_of
 at_is s n i h = go (in_range s n) refl h
   where
-    go : (b : Bool) → in_range s n ≡ b → At i ≡ cond b (At (record { secs = seconds_of s; nanos = n })) Outside → Is s n i.secs i.nanos
+    go : (b : Bool) → in_range s n ≡ b → Ok i ≡ answer {A = Instant} (first_of ((MomentRange when not b) ∷ [])) (record { secs = seconds_of s; nanos = n }) → Is s n i.secs i.nanos
     go true e g =
-        let a : i.secs ≡ seconds_of s = ap (λ (x : Given). secs_of x) g in
-        let b : i.nanos ≡ n = ap (λ (x : Given). nanos_of_lem x) g in
-        record { yes = e; secs_is = a; nanos_is = b; accepted = subst2 (sym a) (sym b) (accepted_at s n e) }
-      where
-        secs_of : Given → ℕ
-        secs_of (At j) = j.secs
-        secs_of Outside = 0
+        let q : ◌≡◌ {A = Instant} i (record { secs = seconds_of s; nanos = n }) = cc in
+        record {
+          yes = e;
+          secs_is = ap (λ (x : Instant). x.secs) q;
+          nanos_is = ap (λ (x : Instant). x.nanos) q;
+          accepted = subst (λ (x : Instant). Within 0 x.secs x.nanos) (sym q) (accepted_at s n e);
+        }
+    go false e g = absurd cc
 
-        nanos_of_lem : Given → ℕ
-        nanos_of_lem (At j) = j.nanos
-        nanos_of_lem Outside = 0
-
-        subst2 : {a b c d : ℕ} → a ≡ b → c ≡ d → Within 0 a c → Within 0 b d
-        subst2 {a} {b} {c} {d} p q h = subst (λ (x : ℕ). Within 0 x d) p (subst (λ (x : ℕ). Within 0 a x) q h)
-    go false e g = let z : ◌≡◌ {A = ℕ} 0 1 = cc in absurd (zero_one z)
-      where
-        zero_one : ◌≡◌ {A = ℕ} 0 1 → ⊥
-        zero_one h = omega arith
-
-pub outside : (s : ℤ) (n : ℕ) → Outside ≡ given_of s n → in_range s n ≡ false
+pub outside : (s : ℤ) (n : ℕ) (r : Refusal) → Err r ≡ given_of s n → (r ≡ MomentRange) × (in_range s n ≡ false)
 unfolding given_of
-outside s n h = go (in_range s n) refl h
+outside s n r h = go (in_range s n) refl h
   where
-    go : (b : Bool) → in_range s n ≡ b → Outside ≡ cond b (At (record { secs = seconds_of s; nanos = n })) Outside → in_range s n ≡ false
-    go true e g = let z : ◌≡◌ {A = ℕ} 0 1 = cc in absurd (zero_one z)
-      where
-        zero_one : ◌≡◌ {A = ℕ} 0 1 → ⊥
-        zero_one h = omega arith
-    go false e g = e
+    go : (b : Bool) → in_range s n ≡ b → Err r ≡ answer {A = Instant} (first_of ((MomentRange when not b) ∷ [])) (record { secs = seconds_of s; nanos = n }) → (r ≡ MomentRange) × (in_range s n ≡ false)
+    go true e g = absurd cc
+    go false e g = (cc, e)

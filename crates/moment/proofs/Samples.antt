@@ -1,12 +1,13 @@
 -- Sample times at the boundary: what the range test says in unsigned numbers, what the machine reads of a sum, and what
 -- callers ask of moments. Assumes nothing.
-use Rattle.std.proofs.Common.{◌≡◌, ℕ, zero, suc, ◌+◌, ◌-◌, ◌*◌, ◌/◌, ◌%◌, ◌^◌, ◌<◌, ◌≤◌, Bool, true, false, not, ◌&&◌, ltb, List, [], ◌∷◌, length, get_or, drop, ℤ, pos, negsuc, ◌+ℤ◌, ◌-ℤ◌, sym, refl, ap, ◌∙◌, ap₂, le_of_suc-le-suc, not-suc-le-zero, add-one, arith, lit<, drop_of_length-le, drop-cons, w64, SFits, to_z, of_z, ltb-false, ltb-true, le-ltb, lt-ltb, le-leb}
+use Rattle.std.proofs.Common.{int_lt, leb, ltb-true, ltb-false, le-leb, ◌≡◌, ℕ, zero, suc, ◌+◌, ◌-◌, ◌*◌, ◌/◌, ◌%◌, ◌^◌, ◌<◌, ◌≤◌, Bool, true, false, not, ◌&&◌, ltb, List, [], ◌∷◌, length, get_or, ℤ, pos, negsuc, ◌+ℤ◌, ◌-ℤ◌, sym, refl, ap, ◌∙◌, ap₂, le_of_suc-le-suc, not-suc-le-zero, arith, lit<, w64, SFits, to_z, of_z, ltb-false, ltb-true, le-ltb, lt-ltb, le-leb}
 use lib.IntN.{sub_ℕ}
-use lib.Signed.{mag}
+use lib.Signed.{mag, le_z}
 use mir.ValLaws.{to_z-of_z, to_z_pos}
-use borrow.Author.Tests.{not-true}
+use borrow.Author.Tests.{not-true, lt-leb}
+use Rattle.std.specs.List.{list_all}
 use Rattle.laws.proofs.Tests.{and_true}
-use Rattle.moment.specs.Origin.{count1957, count1970, count2057, counts_start, per_second, start1957, start1970, start2057}
+use Rattle.moment.specs.Origin.{time1957, count1957, count1970, count2057, counts_start, per_second, start1957, start1970, start2057}
 use Rattle.moment.specs.declared.Instant.{Instant}
 use Rattle.moment.specs.declared.Moment.{Moment}
 use Rattle.moment.specs.Time.{nanos_of, seconds_of, Sound}
@@ -92,26 +93,19 @@ each_at (t ∷ ts) (suc k) h e = each_at ts k (le_of_suc-le-suc h) (and_true (ti
 pub timed : {ts : List ℤ} → times_in_range ts ≡ true → Timed ts
 timed {ts} e = record { each = λ k h. each_at ts k h e }
 
--- the loop's: from sample k on
-pub record FromOn (ts : List ℤ) (k : ℕ) : Type 0 where
-  pub rest : times_in_range (drop k ts) ≡ times_in_range ts
-
-pub from_first : (ts : List ℤ) → FromOn ts 0
-from_first ts = record { rest = refl }
-
-step : (ts : List ℤ) (k : ℕ) → k < length ts → times_in_range (drop k ts) ≡ (time_in_range (get_or ts k (pos 0)) && times_in_range (drop (k + 1) ts))
+pub all_times : (ts : List ℤ) → list_all time_in_range ts ≡ times_in_range ts
 unfolding times_in_range
-step ts k h = rw (add-one, drop-cons ts k (pos 0))
+all_times [] = refl
+all_times (t ∷ ts) = ap (λ (b : Bool). time_in_range t && b) (all_times ts)
 
-pub from_next : {ts : List ℤ} {k : ℕ} → k < length ts → FromOn ts k → time_in_range (get_or ts k (pos 0)) ≡ true → FromOn ts (k + 1)
-from_next {ts} {k} h f e = record { rest = rw e at (sym (step ts k h) ∙ f.rest) }
-
-pub from_fails : {ts : List ℤ} {k : ℕ} → k < length ts → FromOn ts k → time_in_range (get_or ts k (pos 0)) ≡ false → false ≡ times_in_range ts
-from_fails {ts} {k} h f e = rw e at (sym (step ts k h) ∙ f.rest)
-
-pub from_last : {ts : List ℤ} {k : ℕ} → length ts ≤ k → FromOn ts k → true ≡ times_in_range ts
-unfolding times_in_range
-from_last {ts} {k} h f = rw (drop_of_length-le ts {i = k} h) at f.rest
+-- not below 1957's start
+pub from_1957 : (t : ℤ) → le_z time1957 t ≡ not (int_lt t time1957)
+from_1957 (pos n) = refl
+from_1957 (negsuc n) = go (ltb 410227199999999999 n) refl
+  where
+    go : (b : Bool) → ltb 410227199999999999 n ≡ b → leb n 410227199999999999 ≡ not b
+    go true e = lt-leb n 410227199999999999 (ltb-true 410227199999999999 n e)
+    go false e = le-leb n 410227199999999999 (ltb-false 410227199999999999 n e)
 
 -- ---- differences of two unsigned numbers
 

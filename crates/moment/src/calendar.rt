@@ -10,12 +10,6 @@ pub struct Date {
     pub day: u32,
 }
 
-fn at_most_3(x: u64) -> u64
-    ensures { result ≡ min x 3 }
-{
-    if x < 3 { x } else { 3 }
-}
-
 // The date of the n-th day after 1956-03-01. Years are counted from March, in fours of 1,461 days; from
 // March on, months have 31, 30, 31, 30, 31, 31, 30, 31, 30, 31, 31 days and the rest.
 pub fn date_of(n: u64) -> Date
@@ -23,7 +17,7 @@ pub fn date_of(n: u64) -> Date
     ensures { result ≡ date_of n }
 {
     let rest = n % 1461;
-    let turn = at_most_3(rest / 365);
+    let turn = (rest / 365).min(3);
     let doy = rest - 365 * turn;
     let mp = (5 * doy + 2) / 153;
     let day = doy - (153 * mp + 2) / 5 + 1;
@@ -60,25 +54,11 @@ pub fn leap_year(y: u64) -> bool
 pub fn month_length(leap: bool, m: u64) -> u64
     ensures { Month leap m result }
 {
-    if m == 2 {
-        if leap {
-            return 29;
-        }
-        return 28;
+    match m {
+        2 => { if leap { 29 } else { 28 } }
+        4 | 6 | 9 | 11 => 30,
+        _ => 31,
     }
-    if m == 4 {
-        return 30;
-    }
-    if m == 6 {
-        return 30;
-    }
-    if m == 9 {
-        return 30;
-    }
-    if m == 11 {
-        return 30;
-    }
-    31
 }
 
 // How many days the first n months of a leap year, or of another, have.
@@ -87,10 +67,8 @@ pub fn months_length(leap: bool, n: u64) -> u64
     ensures { Months leap n result }
 {
     let mut days = 0;
-    let mut k = 0;
-    while k < n {
-        k += 1;
-        days += month_length(leap, k);
+    for m in 1..n + 1 {
+        days += month_length(leap, m);
     }
     days
 }

@@ -10,21 +10,13 @@ use crate::{Instant, Moment};
 pub fn in_range(t: i64) -> bool
     ensures { result ≡ time_in_range t }
 {
-    if t < -410227200000000000 {
-        return false;
-    }
-    t < 2745532800000000000
+    -410227200000000000 <= t && t < 2745532800000000000
 }
 
 pub fn all_in_range(times: &[i64]) -> bool
     ensures { result ≡ times_in_range times.now }
 {
-    for k in 0..times.len() {
-        if !in_range(times[k]) {
-            return false;
-        }
-    }
-    true
+    times.iter().all(|t| in_range(*t))
 }
 
 pub fn of_nanos(t: i64) -> Instant

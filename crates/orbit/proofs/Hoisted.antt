@@ -14,13 +14,14 @@ use Rattle.orbit.specs.declared.Elements.{Elements}
 use Rattle.orbit.specs.declared.Rates.{Rates}
 use Rattle.orbit.specs.declared.doppler.Station.{Station}
 use Rattle.orbit.specs.declared.doppler.Sight.{Sight}
-use Rattle.orbit.specs.declared.doppler.Prediction.{Prediction}
+use Rattle.std.proofs.Common.{Result}
+use Rattle.refusal.specs.declared.Refusal.{Refusal}
 
 pub turn_is : (turn : SinCos) (jd : Float) (secs nanos : ℕ) → jd ≡ jd_at secs nanos → (turn.sin ≡ sin_of (theta_of jd)) × (turn.cos ≡ cos_of (theta_of jd)) → turn ≡ turn_at secs nanos
 turn_is turn jd secs nanos h p =
     ap₂ (λ (x y : Float). record { sin = x; cos = y }) (p.0 ∙ ap (λ (x : Float). sin_of (theta_of x)) h) (p.1 ∙ ap (λ (x : Float). cos_of (theta_of x)) h)
 
-pub predicted_at_lem : (g : Station) (e : Elements) (t : ℕ) (turn turn2 : SinCos) (dt near bias : Float) (v : Sight) (r : Prediction)
+pub predicted_at_lem : (g : Station) (e : Elements) (t : ℕ) (turn turn2 : SinCos) (dt near bias : Float) (v : Sight) (r : Result Float Refusal)
     → turn ≡ turn2 → v ≡ sight_of g e → r ≡ predicted_at v t turn dt near bias → r ≡ predicted_of g e t turn2 dt near bias
 predicted_at_lem g e t turn turn2 dt near bias v r h j q = (simp (h, j) at q) ∙ predicted_hoisted g e t turn2 dt near bias
 

@@ -1,13 +1,14 @@
 -- The received frequency, in the Rust's order.
-use Rattle.std.specs.Prelude.{ℕ, ◌≡◌, cond, not, ◌&&◌, [], ◌∷◌, Float}
+use Rattle.std.specs.Prelude.{ℕ, ◌≡◌, cond, not, ◌&&◌, [], ◌∷◌, Float, Option, Result, Ok, Err}
 use Rattle.std.specs.Float.Ieee.{neg, lt, to_signed}
 use Rattle.std.specs.Float.{nan}
 use Rattle.float.specs.Constant.{decimal}
 use Rattle.float.specs.Ops.{◌⊕◌, ◌⊖◌, ◌⊗◌, ◌⊘◌, one}
 use Rattle.float.specs.declared.trig.SinCos.{SinCos}
 use Rattle.roots.specs.Root.{sqrt_of}
-use Rattle.refusal.specs.Numbers as refusal
-use Rattle.refusal.specs.Order.{first, ◌if◌, unless}
+use Rattle.refusal.specs.Refusals.{first_of, ◌when◌, answer, unless}
+use Rattle.refusal.specs.declared.Refusal.{Refusal}
+use Rattle.refusal.specs.declared.Refusal.TheVariants.{MomentRange, FarMoment}
 use Rattle.moment.specs.Time.{seconds_of, nanos_of, moved_of, over_of, tau_of, tau_millis_of, million}
 use Rattle.moment.specs.Range.{taken, moment_count}
 use Rattle.moment.specs.declared.Moment.{Moment}
@@ -18,8 +19,6 @@ use Rattle.orbit.specs.declared.Elements.{Elements}
 use Rattle.orbit.specs.declared.doppler.DfPoly.{DfPoly}
 use Rattle.orbit.specs.declared.doppler.Station.{Station}
 use Rattle.orbit.specs.declared.doppler.Sight.{Sight}
-use Rattle.orbit.specs.declared.doppler.Prediction.{Prediction}
-use Rattle.orbit.specs.declared.doppler.Prediction.TheVariants.{Frequency, Refused}
 
 unfoldable pub dot_of : (ax ay az bx by bz : Float) → Float
 dot_of ax ay az bx by bz = ax ⊗ bx ⊕ ay ⊗ by ⊕ az ⊗ bz
@@ -51,8 +50,8 @@ unfoldable pub received_of : (s : State) (p : Vec3) (uRec near bias centre : Flo
 received_of s p uRec near bias centre = cond (lt (dist_of s p) one) (centre ⊕ near) (shifted_of s p uRec bias centre)
 
 -- of the two adjusted moments, the first that is too far
-abbrev pub far_moments : ℕ → ℕ → ℕ
-far_moments tAdj tCorr = first ((refusal.far_moment if over_of tAdj) ∷ (refusal.far_moment if over_of tCorr) ∷ [])
+abbrev pub far_moments : ℕ → ℕ → Option Refusal
+far_moments tAdj tCorr = first_of ((FarMoment when over_of tAdj) ∷ (FarMoment when over_of tCorr) ∷ [])
 
 -- the adjusted moments, in nanoseconds: t_obs moved by dt, and that moved by dt_rel
 abbrev pub adjusted_of : ℕ → Float → ℕ
@@ -69,22 +68,22 @@ abbrev pub epoch_count : Station → ℕ
 epoch_count g = nanos_of g.epoch.secs g.epoch.nanos
 
 -- from it, and from the rotation at t_obs
-unfoldable pub predicted_at : (v : Sight) (t : ℕ) (turn : SinCos) (dt near bias : Float) → Prediction
+unfoldable pub predicted_at : (v : Sight) (t : ℕ) (turn : SinCos) (dt near bias : Float) → Result Float Refusal
 predicted_at v t turn dt near bias =
     let g = v.station in
     let tAdj = adjusted_of t dt in
     let tCorr = corrected_of tAdj (propagated_of v.e v.k (tau_of tAdj (epoch_count g)) turn) in
-    unless Refused (far_moments tAdj tCorr)
-    (Frequency (received_of (propagated_of v.e v.k (tau_of tCorr (epoch_count g)) turn) g.rec_ecef v.u_rec near bias g.center_freq))
+    answer (far_moments tAdj tCorr)
+    (received_of (propagated_of v.e v.k (tau_of tCorr (epoch_count g)) turn) g.rec_ecef v.u_rec near bias g.center_freq)
 
 -- The Rust's text, over counts of nanoseconds, with the rotation at t_obs; `near` is added to the centre within a metre
-unfoldable pub predicted_of : (g : Station) (e : Elements) (t : ℕ) (turn : SinCos) (dt near bias : Float) → Prediction
+unfoldable pub predicted_of : (g : Station) (e : Elements) (t : ℕ) (turn : SinCos) (dt near bias : Float) → Result Float Refusal
 predicted_of g e t turn dt near bias =
     let p = g.rec_ecef in
     let tAdj = adjusted_of t dt in
     let tCorr = corrected_of tAdj (ecef_at e.a e.i e.raan0 e.u0 (tau_of tAdj (epoch_count g)) turn) in
-    unless Refused (far_moments tAdj tCorr)
-    (Frequency (received_of (ecef_at e.a e.i e.raan0 e.u0 (tau_of tCorr (epoch_count g)) turn) p (potential_of p.x p.y p.z) near bias g.center_freq))
+    answer (far_moments tAdj tCorr)
+    (received_of (ecef_at e.a e.i e.raan0 e.u0 (tau_of tCorr (epoch_count g)) turn) p (potential_of p.x p.y p.z) near bias g.center_freq)
 
 -- what is worked out before is the Rust's
 pub predicted_hoisted : (g : Station) (e : Elements) (t : ℕ) (turn : SinCos) (dt near bias : Float) → predicted_at (sight_of g e) t turn dt near bias ≡ predicted_of g e t turn dt near bias
@@ -95,20 +94,20 @@ predicted_hoisted g e t turn dt near bias = simp hoisted
 abbrev pub station_at : Moment → Float → Vec3 → Station
 station_at epoch centre p = record { epoch = record { secs = seconds_of epoch.seconds; nanos = epoch.nanos }; center_freq = centre; rec_ecef = p }
 
-unfoldable pub predict_frequency_of : (a i raan0 u0 : Float) (epoch tObs : Moment) (dt df centre : Float) (p : Vec3) → Prediction
+unfoldable pub predict_frequency_of : (a i raan0 u0 : Float) (epoch tObs : Moment) (dt df centre : Float) (p : Vec3) → Result Float Refusal
 predict_frequency_of a i raan0 u0 epoch tObs dt df centre p =
-    unless Refused (first ((refusal.moment_range if not (taken epoch && taken tObs)) ∷ []))
+    unless (first_of ((MomentRange when not (taken epoch && taken tObs)) ∷ []))
     (predicted_of (station_at epoch centre p) (record { a = a; i = i; raan0 = raan0; u0 = u0 }) (moment_count tObs) (turn_of tObs) dt df df)
 
 unfoldable pub bias_of : DfPoly → Float → Float
 bias_of d tau = d.0 ⊕ d.1 ⊗ tau ⊕ d.2 ⊗ tau ⊗ tau
 
-unfoldable pub predict_frequency_poly_of : (a i raan0 u0 : Float) (epoch tObs : Moment) (dt : Float) (d : DfPoly) (tRef : Moment) (centre : Float) (p : Vec3) → Prediction
+unfoldable pub predict_frequency_poly_of : (a i raan0 u0 : Float) (epoch tObs : Moment) (dt : Float) (d : DfPoly) (tRef : Moment) (centre : Float) (p : Vec3) → Result Float Refusal
 predict_frequency_poly_of a i raan0 u0 epoch tObs dt d tRef centre p =
-    unless Refused (first ((refusal.moment_range if not (taken epoch && taken tObs && taken tRef)) ∷ []))
+    unless (first_of ((MomentRange when not (taken epoch && taken tObs && taken tRef)) ∷ []))
     (predicted_of (station_at epoch centre p) (record { a = a; i = i; raan0 = raan0; u0 = u0 }) (moment_count tObs) (turn_of tObs) dt d.0 (bias_of d (tau_millis_of (moment_count tObs) (moment_count tRef))))
 
 -- a prediction's frequency; NaN, where it is refused
-abbrev pub frequency_of : Prediction → Float
-frequency_of (Frequency v) = v
-frequency_of (Refused n) = nan
+abbrev pub frequency_of : Result Float Refusal → Float
+frequency_of (Ok v) = v
+frequency_of (Err r) = nan

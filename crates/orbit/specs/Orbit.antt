@@ -1,12 +1,13 @@
 -- Position and velocity on a circular orbit whose node drifts by J2 (Vallado, Fundamentals of Astrodynamics, section 9.6), in
 -- the Rust's order; the argument of latitude has no J2 term there.
-use Rattle.std.specs.Prelude.{◌≡◌, refl, not, ◌&&◌, [], ◌∷◌, Float}
+use Rattle.std.specs.Prelude.{◌≡◌, refl, not, ◌&&◌, [], ◌∷◌, Float, Result}
 use Rattle.std.specs.Float.Ieee.{neg, of_bits, round}
 use Rattle.float.specs.Constant.{decimal}
 use Rattle.float.specs.Ops.{◌⊕◌, ◌⊖◌, ◌⊗◌, ◌⊘◌, bits}
 use Rattle.float.specs.Trig.{sin_of, cos_of}
-use Rattle.refusal.specs.Numbers as refusal
-use Rattle.refusal.specs.Order.{first, ◌if◌, unless}
+use Rattle.refusal.specs.Refusals.{first_of, ◌when◌, answer}
+use Rattle.refusal.specs.declared.Refusal.{Refusal}
+use Rattle.refusal.specs.declared.Refusal.TheVariants.{MomentRange}
 use Rattle.moment.specs.Time.{seconds_of, tau_of}
 use Rattle.moment.specs.Range.{taken, moment_count}
 use Rattle.moment.specs.declared.Moment.{Moment}
@@ -14,8 +15,6 @@ use Rattle.frame.specs.Rotation.{rotated_of, turn_at}
 use Rattle.roots.specs.Root.{sqrt_of}
 use Rattle.frame.specs.declared.State.{State}
 use Rattle.float.specs.declared.trig.SinCos.{SinCos}
-use Rattle.orbit.specs.declared.Ecef.{Ecef}
-use Rattle.orbit.specs.declared.Ecef.TheVariants.{At, Refused}
 use Rattle.orbit.specs.declared.Elements.{Elements}
 use Rattle.orbit.specs.declared.Rates.{Rates}
 
@@ -99,7 +98,7 @@ hoisted e tau turn = refl
 abbrev pub turn_of : Moment → SinCos
 turn_of m = turn_at (seconds_of m.seconds) m.nanos
 
-unfoldable pub propagate_ecef_of : (a i raan0 u0 : Float) (epoch tOrbit tRotate : Moment) → Ecef
+unfoldable pub propagate_ecef_of : (a i raan0 u0 : Float) (epoch tOrbit tRotate : Moment) → Result State Refusal
 propagate_ecef_of a i raan0 u0 epoch tOrbit tRotate =
-    unless Refused (first ((refusal.moment_range if not (taken epoch && taken tOrbit && taken tRotate)) ∷ []))
-    (At (ecef_at a i raan0 u0 (tau_of (moment_count tOrbit) (moment_count epoch)) (turn_of tRotate)))
+    answer (first_of ((MomentRange when not (taken epoch && taken tOrbit && taken tRotate)) ∷ []))
+    (ecef_at a i raan0 u0 (tau_of (moment_count tOrbit) (moment_count epoch)) (turn_of tRotate))

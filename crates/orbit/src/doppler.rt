@@ -8,17 +8,12 @@ ghost use Rattle.orbit.specs.Doppler.{dot_of, potential_of, received_of, drift_o
 use crate::{Elements, MU, Rates};
 use float::trig::SinCos;
 use frame::{State, Vec3};
-use moment::{Given, Instant, Moment};
+use moment::time::{MICROSECOND, NANOSECOND};
+use moment::{Instant, Moment};
+use refusal::Refusal;
 
 // The speed of light, m/s.
 const C: f64 = 299792458.0;
-
-// A frequency, or the number of a refusal.
-#[derive(Clone, Copy)]
-pub enum Prediction {
-    Frequency(f64),
-    Refused(u32),
-}
 
 // A bias and its first two derivatives.
 #[derive(Clone, Copy)]
@@ -102,22 +97,29 @@ pub fn sight_of(g: Station, e: Elements) -> Sight
 }
 
 // The inner prediction: what depends on the orbit and the station alone, and the rotation at t_obs, are worked out before.
-pub fn predict(v: Sight, t_obs: Instant, turn: SinCos, dt: f64, near: f64, bias: f64) -> Prediction
+pub fn predict(
+    v: Sight,
+    t_obs: Instant,
+    turn: SinCos,
+    dt: f64,
+    near: f64,
+    bias: f64,
+) -> Result<f64, Refusal>
     requires { Sound v.station.epoch.secs v.station.epoch.nanos × Sound t_obs.secs t_obs.nanos }
     ensures { result ≡ predicted_at v (nanos_of t_obs.secs t_obs.nanos) turn dt near bias }
 {
     let epoch = v.station.epoch;
-    let t_adj = moment::time::moved_micros(t_obs, dt * 1000000.0);
+    let t_adj = moment::time::moved::<MICROSECOND>(t_obs, dt * 1000000.0);
     if moment::time::over(t_adj) {
-        return Prediction::Refused(refusal::FAR_MOMENT);
+        return Err(Refusal::FarMoment);
     }
     let first = crate::propagate(v.e, v.k, moment::time::tau(t_adj, epoch), turn);
-    let t_corr = moment::time::moved_nanos(t_adj, drift(first));
+    let t_corr = moment::time::moved::<NANOSECOND>(t_adj, drift(first));
     if moment::time::over(t_corr) {
-        return Prediction::Refused(refusal::FAR_MOMENT);
+        return Err(Refusal::FarMoment);
     }
     let s = crate::propagate(v.e, v.k, moment::time::tau(t_corr, epoch), turn);
-    Prediction::Frequency(received(
+    Ok(received(
         s,
         v.station.rec_ecef,
         v.u_rec,
@@ -128,7 +130,14 @@ pub fn predict(v: Sight, t_obs: Instant, turn: SinCos, dt: f64, near: f64, bias:
 }
 
 // A prediction with nothing worked out before.
-fn predict_at(g: Station, e: Elements, t_obs: Instant, dt: f64, near: f64, bias: f64) -> Prediction
+fn predict_at(
+    g: Station,
+    e: Elements,
+    t_obs: Instant,
+    dt: f64,
+    near: f64,
+    bias: f64,
+) -> Result<f64, Refusal>
     requires { Within 0 g.epoch.secs g.epoch.nanos × Within 0 t_obs.secs t_obs.nanos }
     ensures { result ≡ predicted_of g e (nanos_of t_obs.secs t_obs.nanos) (turn_at t_obs.secs t_obs.nanos) dt near bias }
 {
@@ -148,15 +157,11 @@ pub fn predict_frequency(
     df: f64,
     center_freq: f64,
     rec_ecef: Vec3,
-) -> Prediction
+) -> Result<f64, Refusal>
     ensures { result ≡ predict_frequency_of a i raan0 u0 epoch t_obs dt df center_freq rec_ecef }
 {
-    let Given::At(from) = moment::instant_of(epoch) else {
-        return Prediction::Refused(refusal::MOMENT_RANGE);
-    };
-    let Given::At(t) = moment::instant_of(t_obs) else {
-        return Prediction::Refused(refusal::MOMENT_RANGE);
-    };
+    let from = Instant::try_from(epoch)?;
+    let t = Instant::try_from(t_obs)?;
     let g = Station {
         epoch: from,
         center_freq,
@@ -184,18 +189,12 @@ pub fn predict_frequency_poly(
     t_ref: Moment,
     center_freq: f64,
     rec_ecef: Vec3,
-) -> Prediction
+) -> Result<f64, Refusal>
     ensures { result ≡ predict_frequency_poly_of a i raan0 u0 epoch t_obs dt df_poly t_ref center_freq rec_ecef }
 {
-    let Given::At(from) = moment::instant_of(epoch) else {
-        return Prediction::Refused(refusal::MOMENT_RANGE);
-    };
-    let Given::At(t) = moment::instant_of(t_obs) else {
-        return Prediction::Refused(refusal::MOMENT_RANGE);
-    };
-    let Given::At(since) = moment::instant_of(t_ref) else {
-        return Prediction::Refused(refusal::MOMENT_RANGE);
-    };
+    let from = Instant::try_from(epoch)?;
+    let t = Instant::try_from(t_obs)?;
+    let since = Instant::try_from(t_ref)?;
     let near = df_poly.0;
     let bias = bias_at(df_poly, moment::time::tau_millis(t, since));
     let g = Station {

@@ -8,7 +8,8 @@ ghost use Rattle.orbit.specs.Orbit.{rates_of, plane_of, propagated_of, propagate
 
 use float::trig::SinCos;
 use frame::State;
-use moment::{Given, Moment};
+use moment::{Instant, Moment};
+use refusal::Refusal;
 
 // The Earth's gravity in m^3/s^2, its second zonal harmonic, and its radius in m.
 pub const MU: f64 = 3.986004418e14;
@@ -79,13 +80,7 @@ pub fn propagate(e: Elements, k: Rates, tau: f64, turn: SinCos) -> State
     frame::rotated(turn, plane(e, k, u, o))
 }
 
-// An Earth-fixed state, or the number of a refusal.
-#[derive(Clone, Copy)]
-pub enum Ecef {
-    At(State),
-    Refused(u32),
-}
-
+// The Earth-fixed state at t_orbit, in the frame turned as at t_rotate. Refused: 4, a moment is outside 1957 to 2056.
 pub fn propagate_ecef_at_time(
     a: f64,
     i: f64,
@@ -94,19 +89,13 @@ pub fn propagate_ecef_at_time(
     epoch: Moment,
     t_orbit: Moment,
     t_rotate: Moment,
-) -> Ecef
+) -> Result<State, Refusal>
     ensures { result ≡ propagate_ecef_of a i raan0 u0 epoch t_orbit t_rotate }
 {
-    let Given::At(from) = moment::instant_of(epoch) else {
-        return Ecef::Refused(refusal::MOMENT_RANGE);
-    };
-    let Given::At(t) = moment::instant_of(t_orbit) else {
-        return Ecef::Refused(refusal::MOMENT_RANGE);
-    };
-    let Given::At(rotate) = moment::instant_of(t_rotate) else {
-        return Ecef::Refused(refusal::MOMENT_RANGE);
-    };
+    let from = Instant::try_from(epoch)?;
+    let t = Instant::try_from(t_orbit)?;
+    let rotate = Instant::try_from(t_rotate)?;
     let e = Elements { a, i, raan0, u0 };
     let turn = frame::rotation(frame::jd_at(rotate));
-    Ecef::At(propagate(e, rates_of(e), moment::time::tau(t, from), turn))
+    Ok(propagate(e, rates_of(e), moment::time::tau(t, from), turn))
 }

@@ -47,6 +47,11 @@ abbrev pub answer : {A : Type 0} → Option Refusal → A → Result A Refusal
 answer None a = Ok a
 answer (Some r) a = Err r
 
+-- the same where what is worked out after may be refused too
+abbrev pub unless : {A : Type 0} → Option Refusal → Result A Refusal → Result A Refusal
+unless None a = a
+unless (Some r) a = Err r
+
 -- what a call writes: this, or, refused, what was there
 abbrev pub written : {A : Type 0} → Option Refusal → A → A → A
 written None new old = new

@@ -1,15 +1,12 @@
-use Rattle.std.proofs.Common.{rules}
-use Rattle.moment.proofs.Over.{over_low, over_none, over_high, over_at}
+use Rattle.std.proofs.Common.{lit<}
+use Rattle.moment.specs.Time.{over_of}
+use Rattle.moment.proofs.Order.{lt_is}
 use Rattle.moment.proofs.time.over.Goals as goal
 
-pub returns-then-t-lt-EARLIEST : goal.returns-then-t-lt-EARLIEST
-returns-then-t-lt-EARLIEST c = over_low _ _ c.if-t-lt-EARLIEST.true c.requires
+pub returns-then-lt : goal.returns-then-lt
+unfolding over_of
+returns-then-lt c = simp (← lt_is c.args.t (record { secs = 9592186044416; nanos = 0 }) c.requires (lit< tt), ← c.lt.ensures, c.if-lt.true)
 
-pub returns-then-t-lt-LATEST : goal.returns-then-t-lt-LATEST
-returns-then-t-lt-LATEST c = over_none _ _ (search rules) (search rules) (search rules)
-
-pub returns-then-t-gt-LATEST : goal.returns-then-t-gt-LATEST
-returns-then-t-gt-LATEST c = over_high _ _ (search rules)
-
-pub returns : goal.returns
-returns c = over_at _ _ (search rules) (search rules)
+pub returns-else-lt : goal.returns-else-lt
+unfolding over_of
+returns-else-lt c = simp (← lt_is c.args.t (record { secs = 9592186044416; nanos = 0 }) c.requires (lit< tt), ← lt_is (record { secs = 25592186044416; nanos = 0 }) c.args.t (lit< tt) c.requires, ← c.lt.ensures, ← c.lt-else-lt.ensures, c.if-lt.false)
