@@ -20,8 +20,9 @@ use Rattle.frame.specs.Rotation.{turn_at}
 use Rattle.orbit.specs.declared.Elements.{Elements}
 use Rattle.orbit.specs.declared.doppler.Station.{Station}
 use Rattle.orbit.specs.declared.doppler.Sight.{Sight}
-use Rattle.orbit.specs.declared.doppler.Prediction.{Prediction}
-use Rattle.orbit.specs.declared.doppler.Prediction.TheVariants.{Frequency, Refused}
+use Rattle.std.proofs.Common.{Result, Ok}
+use Rattle.std.specs.Result.{IsOk}
+use Rattle.refusal.specs.declared.Refusal.{Refusal}
 use Rattle.orbit.specs.Orbit.{propagated_of}
 use Rattle.orbit.specs.Doppler.{adjusted_of, corrected_of, drift_of, epoch_count, sight_of, predicted_at, predicted_hoisted, frequency_of}
 use Rattle.orbit.proofs.Predicts.{accepted}
@@ -61,7 +62,7 @@ shift p o v w e = record { to = nanos_of p.secs p.nanos; from = nanos_of o.secs 
 
 module _ (g : Station) (e : Elements) (dt : Float) (t : Instant) where
   -- none is refused
-  pub never_far : Shift dt → Within 0 t.secs t.nanos → prediction_at g e dt t ≡ Frequency (frequency_of (prediction_at g e dt t))
+  pub never_far : Shift dt → Within 0 t.secs t.nanos → prediction_at g e dt t ≡ Ok (frequency_of (prediction_at g e dt t))
   unfolding prediction_at
   never_far s w =
       let v = sight_of g e in
@@ -78,22 +79,19 @@ module _ (g : Station) (e : Elements) (dt : Float) (t : Instant) where
       refl refl (not_over n (omega (arith, a.low)) (omega (arith, a.high))) refl refl refl refl refl
       (not_over m (omega (arith, a.low, b.low)) (omega (arith, a.high, b.high))) refl refl refl
       ∙ predicted_hoisted g e at turn dt (bits 0) (bits 0) in
-      sym q ∙ ap (λ (p : Prediction). Frequency (frequency_of p)) q
+      sym q ∙ ap (λ (p : Result Float Refusal). Ok (frequency_of p)) q
 
 -- what is worked out before is the definition's
 module _ (v : Sight) (dt : Float) (t : Instant) (turn : SinCos) where
-  predicts : Seen v → turn ≡ turn_at t.secs t.nanos → (r : Prediction)
+  predicts : Seen v → turn ≡ turn_at t.secs t.nanos → (r : Result Float Refusal)
       → r ≡ predicted_at v (nanos_of t.secs t.nanos) turn dt (bits 0) (bits 0) → r ≡ prediction_at v.station v.e dt t
   unfolding prediction_at
   predicts d h r q = predicted_at_lem v.station v.e _ turn _ dt (bits 0) (bits 0) v r h d.is q
 
   pub shifted : Seen v → turn ≡ turn_at t.secs t.nanos → (f : Float)
-      → Frequency f ≡ predicted_at v (nanos_of t.secs t.nanos) turn dt (bits 0) (bits 0) → Shifted f (prediction_at v.station v.e dt t)
-  shifted d h f q = record { is = predicts d h (Frequency f) q }
+      → Ok f ≡ predicted_at v (nanos_of t.secs t.nanos) turn dt (bits 0) (bits 0) → Shifted f (prediction_at v.station v.e dt t)
+  shifted d h f q = record { is = predicts d h (Ok f) q }
 
-  pub not_refused : Seen v → turn ≡ turn_at t.secs t.nanos → Shift dt → Within 0 t.secs t.nanos → (n : ℕ)
-      → Refused n ≡ predicted_at v (nanos_of t.secs t.nanos) turn dt (bits 0) (bits 0) → ⊥
-  not_refused d h s w n q =
-      let a = predicts d h (Refused n) q in
-      let b = never_far v.station v.e dt t s w in
-      let z : ◌≡◌ {A = ℕ} 0 1 = cc in omega (arith, z)
+  pub answered : Seen v → turn ≡ turn_at t.secs t.nanos → Shift dt → Within 0 t.secs t.nanos → (r : Result Float Refusal)
+      → r ≡ predicted_at v (nanos_of t.secs t.nanos) turn dt (bits 0) (bits 0) → IsOk r
+  answered d h s w r q = rw (predicts d h r q ∙ never_far v.station v.e dt t s w) refl

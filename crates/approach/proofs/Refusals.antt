@@ -13,7 +13,8 @@ use Rattle.refusal.specs.Order.{◌if◌, first}
 use Rattle.float.specs.Ops.{bits}
 use Rattle.moment.specs.declared.Moment.{Moment}
 use Rattle.moment.specs.declared.Instant.{Instant}
-use Rattle.moment.specs.declared.Given.TheVariants.{At, Outside}
+use Rattle.std.proofs.Common.{Ok, Err}
+use Rattle.refusal.specs.declared.Refusal.{Refusal}
 use Rattle.moment.specs.Range.{given_of}
 use Rattle.moment.specs.Sample.{times_in_range}
 use Rattle.moment.proofs.Ranges.{at_is, outside}
@@ -59,15 +60,15 @@ last_of false true c n e h = absurd (omega (arith, e))
 last_of false false c n e h = h
 
 module _ (epoch : Moment) (counts : List ℕ) (times : List ℤ) (freqs centers : List Float) where
-  pub epoch_out : Outside ≡ given_of epoch.seconds epoch.nanos → moment_range ≡ sum_refusal epoch counts times freqs centers
+  pub epoch_out : (x : Refusal) → Err x ≡ given_of epoch.seconds epoch.nanos → moment_range ≡ sum_refusal epoch counts times freqs centers
   unfolding sum_refusal
-  epoch_out h = simp (outside epoch.seconds epoch.nanos h)
+  epoch_out x h = simp (outside epoch.seconds epoch.nanos x h).1
 
-  pub pca_epoch_out : (room : ℕ) → Outside ≡ given_of epoch.seconds epoch.nanos → moment_range ≡ pca_refusal_of epoch counts times freqs centers room
+  pub pca_epoch_out : (room : ℕ) (x : Refusal) → Err x ≡ given_of epoch.seconds epoch.nanos → moment_range ≡ pca_refusal_of epoch counts times freqs centers room
   unfolding pca_refusal_of
-  pca_epoch_out room h = simp (outside epoch.seconds epoch.nanos h)
+  pca_epoch_out room x h = simp (outside epoch.seconds epoch.nanos x h).1
 
-  module _ (i : Instant) (g : At i ≡ given_of epoch.seconds epoch.nanos) where
+  module _ (i : Instant) (g : Ok i ≡ given_of epoch.seconds epoch.nanos) where
     pub epoch_in : set_refusal_of counts times freqs centers ≡ sum_refusal epoch counts times freqs centers
     unfolding sum_refusal set_refusal_of
     epoch_in = simp (at_is epoch.seconds epoch.nanos i g).yes
@@ -86,7 +87,7 @@ module _ (epoch : Moment) (counts : List ℕ) (times : List ℤ) (freqs centers 
         (last_of (not (times_in_range times)) (not (sizes_agree counts (length times) (length freqs) (length centers))) (ltb room (length counts)) m (sym z ∙ e) h)
 
 -- the station as the inner functions have it
-pub station_is : (epoch : Moment) (centre : Float) (p : Vec3) (i : Instant) → At i ≡ given_of epoch.seconds epoch.nanos
+pub station_is : (epoch : Moment) (centre : Float) (p : Vec3) (i : Instant) → Ok i ≡ given_of epoch.seconds epoch.nanos
     → ◌≡◌ {A = Station} (record { epoch = i; center_freq = centre; rec_ecef = p }) (station_at epoch centre p)
 station_is epoch centre p i g =
     let x = at_is epoch.seconds epoch.nanos i g in

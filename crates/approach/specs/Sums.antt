@@ -1,5 +1,5 @@
 -- The sum of squares that the search makes small, in the reference's order.
-use Rattle.std.specs.Prelude.{◌≡◌, refl, cond, List, ℕ, eqb, ℤ, pos, length, get_or, Float}
+use Rattle.std.specs.Prelude.{◌≡◌, refl, cond, List, ℕ, eqb, ℤ, pos, length, get_or, Float, Result, Ok}
 use Rattle.std.specs.Float.{nan}
 use Rattle.std.specs.Float.Ieee.{round, of_bits}
 use Rattle.loops.specs.Loop.{for}
@@ -12,8 +12,7 @@ use Rattle.pass_set.specs.PassSet.{pass_of}
 use Rattle.frame.specs.Rotation.{turn_at}
 use Rattle.orbit.specs.declared.Elements.{Elements}
 use Rattle.orbit.specs.declared.doppler.Station.{Station}
-use Rattle.orbit.specs.declared.doppler.Prediction.{Prediction}
-use Rattle.orbit.specs.declared.doppler.Prediction.TheVariants.{Frequency}
+use Rattle.refusal.specs.declared.Refusal.{Refusal}
 use Rattle.orbit.specs.Doppler.{predicted_of, frequency_of}
 use Rattle.approach.specs.declared.Gradient.{Gradient}
 use Rattle.approach.specs.Pca.{obs_pca_time, pred_pca_time}
@@ -30,12 +29,12 @@ abbrev pub seconds_from : Instant → Instant → Float
 seconds_from t e = tau_millis_of (nanos_of t.secs t.nanos) (nanos_of e.secs e.nanos)
 
 -- r is what was predicted, and no refusal
-pub record Shifted (r : Float) (p : Prediction) : Type 0 where
-  pub is : Frequency r ≡ p
+pub record Shifted (r : Float) (p : Result Float Refusal) : Type 0 where
+  pub is : Ok r ≡ p
 
 module _ (g : Station) (e : Elements) where
   -- what is predicted for the moment t, with no bias
-  unfoldable pub prediction_at : Float → Instant → Prediction
+  unfoldable pub prediction_at : Float → Instant → Result Float Refusal
   prediction_at dt t = predicted_of g e (nanos_of t.secs t.nanos) (turn_at t.secs t.nanos) dt (bits 0) (bits 0)
 
   -- sample k's: its frequency less centre and prediction, squared; none is refused (theorem `never_far` of proofs/Far.antt)

@@ -11,7 +11,7 @@ ghost use Rattle.approach.specs.Sums.{rss_of, gradient_of};
 ghost use Rattle.approach.specs.Answers.{set_refusal_of, sum_refusal, FindsPcas, rss_answer, gradient_answer};
 
 use frame::Vec3;
-use moment::{Given, Moment};
+use moment::{Instant, Moment};
 use orbit::Elements;
 use orbit::doppler::Station;
 
@@ -91,7 +91,7 @@ pub fn get_pred_pca_times(
 ) -> u32
     ensures { FindsPcas a i raan u0 epoch rec_ecef counts.now times.now freqs.now centers.now out.old out.new result }
 {
-    let Given::At(t) = moment::instant_of(epoch) else {
+    let Ok(t) = Instant::try_from(epoch) else {
         return refusal::MOMENT_RANGE;
     };
     let refusal = set_refusal(counts, times, freqs, centers);
@@ -134,7 +134,7 @@ pub fn compute_rss(
     ensures { result ≡ rss_answer (sum_refusal epoch counts.now times.now freqs.now centers.now)
         (rss_of (station_at epoch center_freq rec_ecef) (record { a = initial_a; i = initial_i; raan0 = raan0; u0 = u0 }) counts.now times.now freqs.now centers.now) }
 {
-    let Given::At(t) = moment::instant_of(epoch) else {
+    let Ok(t) = Instant::try_from(epoch) else {
         return Rss {
             refusal: refusal::MOMENT_RANGE,
             rss: 0.0,
@@ -182,7 +182,7 @@ pub fn compute_gradient(
         grad_raan: 0.0,
         grad_u0: 0.0,
     };
-    let Given::At(t) = moment::instant_of(epoch) else {
+    let Ok(t) = Instant::try_from(epoch) else {
         return Gradients {
             refusal: refusal::MOMENT_RANGE,
             gradient: zeros,

@@ -9,7 +9,7 @@ ghost use Rattle.approach.specs.Turns.{Seen, PassSamples, SoundSet, Shift, Held,
 use crate::Gradient;
 use moment::Instant;
 use orbit::Elements;
-use orbit::doppler::{Prediction, Sight, Station};
+use orbit::doppler::{Sight, Station};
 
 // A prediction with no bias, by entry j of a table. By what is asked of dt no adjusted moment is too far.
 fn shift_at(v: Sight, dt: f64, t: Instant, table: &[f64], j: usize) -> f64
@@ -17,10 +17,7 @@ fn shift_at(v: Sight, dt: f64, t: Instant, table: &[f64], j: usize) -> f64
     ensures { Shifted result (prediction_at v.station v.e dt t) }
 {
     let turn = crate::turns::turn_at(table, j, t);
-    let Prediction::Frequency(f) = orbit::doppler::predict(v, t, turn, dt, 0.0, 0.0) else {
-        return 0.0;
-    };
-    f
+    orbit::doppler::predict(v, t, turn, dt, 0.0, 0.0).unwrap()
 }
 
 // Adds the square of sample n's frequency less centre and prediction. Its entry in the table is j.

@@ -1,8 +1,7 @@
--- `shift_at` meets its contract: the refusing arm is never taken. Assumes nothing.
-use mathlib.Core.Path.{sym, ◌∙◌}
-use lib.Dec.{lit≤}
+-- `shift_at` meets its contract: no prediction is refused. Assumes nothing.
+use Rattle.std.proofs.Common.{sym, ◌∙◌, lit≤}
 use Rattle.moment.proofs.Samples.{within_sound, within_more}
-use Rattle.approach.proofs.Far.{shifted, not_refused}
+use Rattle.approach.proofs.Far.{shifted, answered}
 use Rattle.approach.proofs.sums.shift_at.Goals as goal
 
 pub turn_at-turn-requires : goal.turn_at-turn-requires
@@ -11,12 +10,10 @@ turn_at-turn-requires c = let p = c.requires in (within_more (lit≤ tt) p.1.0, 
 pub predict-requires : goal.predict-requires
 predict-requires c = let p = c.requires in (within_sound 0 _ _ (lit≤ tt) p.0.0.within, within_sound 0 _ _ (lit≤ tt) p.1.0)
 
-pub returns-in_default : goal.returns-in_default
-returns-in_default c =
-    let p = c.requires in
-    absurd (not_refused _ _ _ _ p.0.0 c.turn_at-turn.ensures p.0.1 p.1.0 _ (sym c.in_default.is ∙ c.predict.ensures))
+pub unwrap-requires : goal.unwrap-requires
+unwrap-requires c = let p = c.requires in answered _ _ _ _ p.0.0 c.turn_at-turn.ensures p.0.1 p.1.0 _ c.predict.ensures
 
 pub returns : goal.returns
 returns c =
     let p = c.requires in
-    shifted _ _ _ _ p.0.0 c.turn_at-turn.ensures _ (sym c.in-Frequency.is ∙ c.predict.ensures)
+    shifted _ _ _ _ p.0.0 c.turn_at-turn.ensures _ (sym c.unwrap.ensures ∙ c.predict.ensures)
