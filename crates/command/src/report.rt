@@ -7,7 +7,8 @@ ghost use Rattle.command.specs.Report.{moment_in, sample_moment, residual_of, sq
 use frame::Vec3;
 use moment::Moment;
 use orbit::doppler;
-use orbit::doppler::{DfPoly, Prediction};
+use orbit::doppler::DfPoly;
+use refusal::Refusal;
 use solution::SolvedOrbit;
 
 // What all predictions share: the fit's orbit and centre frequency, and the mast.
@@ -70,13 +71,10 @@ fn moment_at(times: &[i64], k: usize) -> Moment
     }
 }
 
-fn frequency(p: Prediction) -> f64
+fn frequency(p: Result<f64, Refusal>) -> f64
     ensures { result ≡ frequency_of p }
 {
-    match p {
-        Prediction::Frequency(v) => v,
-        Prediction::Refused(_) => 0.0 / 0.0,
-    }
+    p.unwrap_or(0.0 / 0.0)
 }
 
 fn residual(g: Fitted, b: Pass, m: Moment, f: f64) -> f64

@@ -1,12 +1,11 @@
 -- Document 01's table to prove: one list of rows. proofs/Table.antt proves that they hold.
-use Rattle.std.specs.Prelude.{◌≡◌, List, [], ◌∷◌, ℕ, ◌-◌, ◌^◌, pos, negsuc, take, replicate, Float}
+use Rattle.std.specs.Prelude.{◌≡◌, List, [], ◌∷◌, ℕ, ◌-◌, ◌^◌, pos, negsuc, take, replicate, Float, Ok}
 use Rattle.std.proofs.Math.Option.{some}
 use Rattle.std.specs.Float.Ieee.{neg}
 use Rattle.float.specs.Constant.{decimal}
 use Rattle.moment.specs.Time.{units_between}
 use Rattle.moment.specs.Sample.{sample_count}
 use Rattle.frame.specs.Julian.{datetime_to_jd_of}
-use Rattle.frame.specs.declared.JulianDate.TheVariants.{At}
 use Rattle.linear.specs.Elimination.{solution_of}
 use Rattle.linear.specs.Answer as linear
 use Rattle.monna.specs.Rng.{draw_of}
@@ -46,7 +45,7 @@ no_room = given.room_of 0 0 0 0 0 0
 unfoldable pub table : List Row
 table =
     -- JD of 2000-01-01T12:00:00Z
-    (datetime_to_jd_of (record { seconds = pos 946728000; nanos = 0 }) is At (whole 2451545))
+    (datetime_to_jd_of (record { seconds = pos 946728000; nanos = 0 }) is Ok (whole 2451545))
     -- −1,500 ns and −999 ns in µs
     ∷ (units_between 1000 (sample_count (negsuc 1499)) (sample_count (pos 0)) is negsuc 0)
     ∷ (units_between 1000 (sample_count (negsuc 998)) (sample_count (pos 0)) is pos 0)

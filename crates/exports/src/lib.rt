@@ -23,12 +23,12 @@ ghost use Rattle.float.specs.Trig.{sin_of, cos_of};
 ghost use Rattle.frame.specs.Julian.{datetime_to_jd_of};
 ghost use Rattle.orbit.specs.Orbit.{propagate_ecef_of};
 ghost use Rattle.orbit.specs.Doppler.{predict_frequency_of, predict_frequency_poly_of};
-ghost use Rattle.exports.specs.Answers.{jd_number, jd_value, ecef_number, ecef_values, prediction_number, prediction_value, moment, polynomial};
+ghost use Rattle.exports.specs.Answers.{moment, polynomial, state_values};
+ghost use Rattle.refusal.specs.Refusals.{status_of, left_by};
 
-use frame::{JulianDate, Vec3};
+use frame::Vec3;
 use moment::Moment;
-use orbit::Ecef;
-use orbit::doppler::{DfPoly, Prediction};
+use orbit::doppler::DfPoly;
 
 #[unsafe(no_mangle)]
 pub extern "C" fn wisvalom_sqrt(x: f64) -> f64
@@ -60,17 +60,11 @@ pub extern "C" fn wisvalom_cos(v: f64) -> f64
 
 #[unsafe(no_mangle)]
 pub extern "C" fn wisvalom_datetime_to_jd(seconds: i64, nanos: u32, out: &mut f64) -> u32
-    ensures value { result ≡ jd_number (datetime_to_jd_of (moment seconds nanos)) }
-    ensures out_after { out.new ≡ jd_value out.old (datetime_to_jd_of (moment seconds nanos)) }
+    ensures value { result ≡ status_of (datetime_to_jd_of (moment seconds nanos)) }
+    ensures out_after { out.new ≡ left_by out.old (datetime_to_jd_of (moment seconds nanos)) }
 {
     let answer = frame::datetime_to_jd(Moment { seconds, nanos });
-    match answer {
-        JulianDate::At(x) => {
-            *out = x;
-            0
-        }
-        JulianDate::Refused(n) => n,
-    }
+    refusal::report(answer, out)
 }
 
 #[unsafe(no_mangle)]
@@ -91,8 +85,8 @@ pub extern "C" fn wisvalom_predict_frequency(
     z: f64,
     out: &mut f64,
 ) -> u32
-    ensures value { result ≡ prediction_number (predict_frequency_of a i raan0 u0 (moment epoch epoch_nanos) (moment t_obs t_obs_nanos) dt df center_freq (place x y z)) }
-    ensures out_after { out.new ≡ prediction_value out.old (predict_frequency_of a i raan0 u0 (moment epoch epoch_nanos) (moment t_obs t_obs_nanos) dt df center_freq (place x y z)) }
+    ensures value { result ≡ status_of (predict_frequency_of a i raan0 u0 (moment epoch epoch_nanos) (moment t_obs t_obs_nanos) dt df center_freq (place x y z)) }
+    ensures out_after { out.new ≡ left_by out.old (predict_frequency_of a i raan0 u0 (moment epoch epoch_nanos) (moment t_obs t_obs_nanos) dt df center_freq (place x y z)) }
 {
     let answer = orbit::doppler::predict_frequency(
         a,
@@ -112,13 +106,7 @@ pub extern "C" fn wisvalom_predict_frequency(
         center_freq,
         Vec3 { x, y, z },
     );
-    match answer {
-        Prediction::Frequency(f) => {
-            *out = f;
-            0
-        }
-        Prediction::Refused(n) => n,
-    }
+    refusal::report(answer, out)
 }
 
 #[unsafe(no_mangle)]
@@ -143,8 +131,8 @@ pub extern "C" fn wisvalom_predict_frequency_poly(
     z: f64,
     out: &mut f64,
 ) -> u32
-    ensures value { result ≡ prediction_number (predict_frequency_poly_of a i raan0 u0 (moment epoch epoch_nanos) (moment t_obs t_obs_nanos) dt (polynomial df0 df1 df2) (moment t_ref t_ref_nanos) center_freq (place x y z)) }
-    ensures out_after { out.new ≡ prediction_value out.old (predict_frequency_poly_of a i raan0 u0 (moment epoch epoch_nanos) (moment t_obs t_obs_nanos) dt (polynomial df0 df1 df2) (moment t_ref t_ref_nanos) center_freq (place x y z)) }
+    ensures value { result ≡ status_of (predict_frequency_poly_of a i raan0 u0 (moment epoch epoch_nanos) (moment t_obs t_obs_nanos) dt (polynomial df0 df1 df2) (moment t_ref t_ref_nanos) center_freq (place x y z)) }
+    ensures out_after { out.new ≡ left_by out.old (predict_frequency_poly_of a i raan0 u0 (moment epoch epoch_nanos) (moment t_obs t_obs_nanos) dt (polynomial df0 df1 df2) (moment t_ref t_ref_nanos) center_freq (place x y z)) }
 {
     let answer = orbit::doppler::predict_frequency_poly(
         a,
@@ -168,13 +156,7 @@ pub extern "C" fn wisvalom_predict_frequency_poly(
         center_freq,
         Vec3 { x, y, z },
     );
-    match answer {
-        Prediction::Frequency(f) => {
-            *out = f;
-            0
-        }
-        Prediction::Refused(n) => n,
-    }
+    refusal::report(answer, out)
 }
 
 // Position, then velocity.
@@ -192,8 +174,8 @@ pub extern "C" fn wisvalom_propagate_ecef_at_time(
     t_rotate_nanos: u32,
     out: &mut [f64; 6],
 ) -> u32
-    ensures value { result ≡ ecef_number (propagate_ecef_of a i raan0 u0 (moment epoch epoch_nanos) (moment t_orbit t_orbit_nanos) (moment t_rotate t_rotate_nanos)) }
-    ensures out_after { out.new ≡ ecef_values out.old (propagate_ecef_of a i raan0 u0 (moment epoch epoch_nanos) (moment t_orbit t_orbit_nanos) (moment t_rotate t_rotate_nanos)) }
+    ensures value { result ≡ status_of (propagate_ecef_of a i raan0 u0 (moment epoch epoch_nanos) (moment t_orbit t_orbit_nanos) (moment t_rotate t_rotate_nanos)) }
+    ensures out_after { out.new ≡ left_by out.old (state_values (propagate_ecef_of a i raan0 u0 (moment epoch epoch_nanos) (moment t_orbit t_orbit_nanos) (moment t_rotate t_rotate_nanos))) }
 {
     let answer = orbit::propagate_ecef_at_time(
         a,
@@ -213,11 +195,8 @@ pub extern "C" fn wisvalom_propagate_ecef_at_time(
             nanos: t_rotate_nanos,
         },
     );
-    match answer {
-        Ecef::At(s) => {
-            *out = [s.x, s.y, s.z, s.vx, s.vy, s.vz];
-            0
-        }
-        Ecef::Refused(n) => n,
-    }
+    refusal::report(
+        answer.map(|s| [s.x, s.y, s.z, s.vx, s.vy, s.vz]),
+        out,
+    )
 }

@@ -52,6 +52,16 @@ abbrev pub unless : {A : Type 0} → Option Refusal → Result A Refusal → Res
 unless None a = a
 unless (Some r) a = Err r
 
+-- what other languages are told of an answer: 0, or the refusal's number
+abbrev pub status_of : {A : Type 0} → Result A Refusal → ℕ
+status_of (Ok a) = 0
+status_of (Err r) = number_of r
+
+-- and what it leaves in a place that was lent for the value: the value, or what was there
+abbrev pub left_by : {A : Type 0} → A → Result A Refusal → A
+left_by old (Ok a) = a
+left_by old (Err r) = old
+
 -- what a call writes: this, or, refused, what was there
 abbrev pub written : {A : Type 0} → Option Refusal → A → A → A
 written None new old = new

@@ -2,7 +2,7 @@
 #![tactic(auto)]
 
 ghost use Rattle.std.specs.Prelude.{◌≡◌};
-ghost use Rattle.refusal.specs.Refusals.{number_of};
+ghost use Rattle.refusal.specs.Refusals.{number_of, status_of, left_by};
 
 // Why a call refuses what it is given. The numbers are the documents'.
 #[derive(Clone, Copy, PartialEq, Eq, Debug)]
@@ -59,6 +59,20 @@ impl Refusal {
         ensures { result ≡ number_of self }
     {
         self as u32
+    }
+}
+
+// An answer as other languages get it: 0, with its value in `out`; or the refusal's number, with `out` as it was.
+pub fn report<T: Copy>(answer: Result<T, Refusal>, out: &mut T) -> u32
+    ensures value { result ≡ status_of answer }
+    ensures out_after { out.new ≡ left_by out.old answer }
+{
+    match answer {
+        Ok(value) => {
+            *out = value;
+            0
+        }
+        Err(r) => r.number(),
     }
 }
 

@@ -1,17 +1,22 @@
 // Dates, rotation of the Earth, motion and frequencies.
-use frame::{JulianDate, State};
-use orbit::Ecef;
-use orbit::doppler::{DfPoly, Prediction};
+use frame::State;
+use orbit::doppler::DfPoly;
+use refusal::Refusal;
 
 fn same_state(fields: &[u8], s: State) -> bool {
     answer_lines::floats_are(fields, &[s.x, s.y, s.z, s.vx, s.vy, s.vz])
 }
 
-fn jd(asked: &[u8], answer: &[u8]) -> bool {
-    match frame::datetime_to_jd(answer_lines::moment(asked)) {
-        JulianDate::At(x) => crate::given(answer, x),
-        JulianDate::Refused(n) => answer_lines::refused(answer, n),
+// The answer is this number, or this refusal.
+fn same_number(answer: &[u8], a: Result<f64, Refusal>) -> bool {
+    match a {
+        Ok(x) => crate::given(answer, x),
+        Err(r) => answer_lines::refused(answer, r.number()),
     }
+}
+
+fn jd(asked: &[u8], answer: &[u8]) -> bool {
+    same_number(answer, frame::datetime_to_jd(answer_lines::moment(asked)))
 }
 
 fn teme(asked: &[u8], answer: &[u8]) -> bool {
@@ -34,20 +39,13 @@ fn prop(asked: &[u8], answer: &[u8]) -> bool {
         answer_lines::moment(answer_lines::from(asked, 8)),
     );
     match a {
-        Ecef::At(s) => {
+        Ok(s) => {
             if !answer_lines::refused(answer, 0) {
                 return false;
             }
             same_state(answer_lines::from(answer, 1), s)
         }
-        Ecef::Refused(n) => answer_lines::refused(answer, n),
-    }
-}
-
-fn same_prediction(answer: &[u8], a: Prediction) -> bool {
-    match a {
-        Prediction::Frequency(x) => crate::given(answer, x),
-        Prediction::Refused(n) => answer_lines::refused(answer, n),
+        Err(r) => answer_lines::refused(answer, r.number()),
     }
 }
 
@@ -64,7 +62,7 @@ fn pred(asked: &[u8], answer: &[u8]) -> bool {
         answer_lines::float(asked, 10),
         answer_lines::vec3(answer_lines::from(asked, 11)),
     );
-    same_prediction(answer, a)
+    same_number(answer, a)
 }
 
 fn poly(asked: &[u8], answer: &[u8]) -> bool {
@@ -85,7 +83,7 @@ fn poly(asked: &[u8], answer: &[u8]) -> bool {
         answer_lines::float(asked, 14),
         answer_lines::vec3(answer_lines::from(asked, 15)),
     );
-    same_prediction(answer, a)
+    same_number(answer, a)
 }
 
 pub(crate) fn agrees(line: &[u8]) -> bool {

@@ -15,13 +15,14 @@ use Rattle.pass_set.specs.PassSet.{total}
 use Rattle.float.specs.declared.trig.SinCos.{SinCos}
 use Rattle.moment.specs.Time.{over_of, tau_of}
 use Rattle.refusal.specs.Numbers as refusal
-use Rattle.refusal.specs.Order.{first, ◌if◌, unless}
 use Rattle.orbit.specs.Orbit.{ecef_at}
 use Rattle.orbit.specs.Doppler.{adjusted_of, corrected_of, epoch_count, predicted_of}
 use Rattle.orbit.specs.declared.Elements.{Elements}
 use Rattle.orbit.specs.declared.doppler.Station.{Station}
-use Rattle.orbit.specs.declared.doppler.Prediction.{Prediction}
-use Rattle.orbit.specs.declared.doppler.Prediction.TheVariants.{Frequency, Refused}
+use Rattle.std.proofs.Common.{Result, Ok, Err}
+use Rattle.refusal.specs.Refusals.{number_of, answer, first_of, ◌when◌}
+use Rattle.refusal.specs.declared.Refusal.{Refusal}
+use Rattle.refusal.specs.declared.Refusal.TheVariants.{FarMoment}
 use Rattle.residuals.specs.Samples.{Passes}
 use Rattle.residuals.specs.Residuals.{◌then◌, elements_of, dt_of, pass_bias, shift_of, prediction_of, residual, samples, passes, dt_weight_bits, df1_weight_bits, df2_weight_bits, dt_penalties, drift_penalties, penalties, rows_of, residuals, sum_squares, sum_of}
 use Rattle.residuals.specs.Answers.{filled, filled_refusal, Filled, Summed}
@@ -90,35 +91,35 @@ module _ (one : ℕ → ℕ → ℕ → Option (List Float)) where
       nothing e k h = omega arith
 
 -- A prediction is refused by no other number than 23.
-far_alone : (n : ℕ) (o q : Bool) (v : Float) → unless Refused (first ((refusal.far_moment if o) ∷ (refusal.far_moment if q) ∷ [])) (Frequency v) ≡ Refused n → n ≡ refusal.far_moment
-far_alone n true q v e = cc
-far_alone n false true v e = cc
-far_alone n false false v e = cc
+far_alone : (r : Refusal) (o q : Bool) (v : Float) → answer (first_of ((FarMoment when o) ∷ (FarMoment when q) ∷ [])) v ≡ Err r → r ≡ FarMoment
+far_alone r true q v e = cc
+far_alone r false true v e = cc
+far_alone r false false v e = cc
 
-predicted_far : (g : Station) (e : Elements) (t : ℕ) (turn : SinCos) (dt near bias : Float) (n : ℕ) → predicted_of g e t turn dt near bias ≡ Refused n → n ≡ refusal.far_moment
+predicted_far : (g : Station) (e : Elements) (t : ℕ) (turn : SinCos) (dt near bias : Float) (r : Refusal) → predicted_of g e t turn dt near bias ≡ Err r → r ≡ FarMoment
 unfolding predicted_of
-predicted_far g e t turn dt near bias n h =
+predicted_far g e t turn dt near bias r h =
     let early = adjusted_of t dt in
     let late = corrected_of early (ecef_at e.a e.i e.raan0 e.u0 (tau_of early (epoch_count g)) turn) in
-    far_alone n (over_of early) (over_of late) _ h
+    far_alone r (over_of early) (over_of late) _ h
 
-pub only_far : (g : Station) (times : List ℕ) (e : Elements) (dt : Float) (b : Bias) (f k : ℕ) {y : Prediction} → y ≡ prediction_of g times e dt b f k → (n : ℕ) → y ≡ Refused n → n ≡ refusal.far_moment
+pub only_far : (g : Station) (times : List ℕ) (e : Elements) (dt : Float) (b : Bias) (f k : ℕ) {y : Result Float Refusal} → y ≡ prediction_of g times e dt b f k → (r : Refusal) (n : ℕ) → y ≡ Err r → n ≡ number_of r → n ≡ refusal.far_moment
 unfolding prediction_of
-only_far g times e dt b f k ey n h = predicted_far g e _ _ dt _ _ n (sym ey ∙ h)
+only_far g times e dt b f k ey r n h q = q ∙ ap number_of (predicted_far g e _ _ dt _ _ r (sym ey ∙ h))
 
 -- The residual of a sample from the prediction y.
-module _ (second : Bool) (g : Station) (d : Passes) (x : List Float) (p f k : ℕ) (e : Elements) (dt : Float) (b : Bias) (y : Prediction)
+module _ (second : Bool) (g : Station) (d : Passes) (x : List Float) (p f k : ℕ) (e : Elements) (dt : Float) (b : Bias) (y : Result Float Refusal)
     (ee : e ≡ elements_of x) (et : dt ≡ dt_of second x p) (eb : b ≡ pass_bias second x p) (ey : y ≡ prediction_of g d.times e dt b f k) where
   shift_is : shift_of (prediction_of g d.times (elements_of x) (dt_of second x p) (pass_bias second x p) f k) ≡ shift_of y
   shift_is = rw (ey, ee, et, eb)
 
-  pub residual_is : (v : Float) → y ≡ Frequency v → residual second g d x p f k ≡ some ((at d.freqs k ⊖ (g.center_freq ⊕ v)) ∷ [])
+  pub residual_is : (v : Float) → y ≡ Ok v → residual second g d x p f k ≡ some ((at d.freqs k ⊖ (g.center_freq ⊕ v)) ∷ [])
   unfolding residual
   residual_is v h = rw (shift_is, h)
 
-  pub residual_far : (n : ℕ) → y ≡ Refused n → residual second g d x p f k ≡ none
+  pub residual_far : (r : Refusal) → y ≡ Err r → residual second g d x p f k ≡ none
   unfolding residual
-  residual_far n h = rw (shift_is, h)
+  residual_far r h = rw (shift_is, h)
 
 -- ---- what a turn of the loops over passes and samples does to "what is written, then what is to come, is w"
 

@@ -24,7 +24,8 @@ use Rattle.orbit.specs.Doppler.{sight_of, predicted_at}
 use Rattle.orbit.specs.declared.Elements.{Elements}
 use Rattle.orbit.specs.declared.doppler.Station.{Station}
 use Rattle.orbit.specs.declared.doppler.Sight.{Sight}
-use Rattle.orbit.specs.declared.doppler.Prediction.{Prediction}
+use Rattle.std.proofs.Common.{Result}
+use Rattle.refusal.specs.declared.Refusal.{Refusal}
 use Rattle.orbit.proofs.Hoisted.{predicted_at_lem}
 use Rattle.residuals.specs.Samples.{count_at, counts_at, instant_of, nanos_at, rotation_at, turn_in, DatedTimes, Rotations}
 use Rattle.residuals.specs.Residuals.{bias_at, near_of, prediction_of}
@@ -37,13 +38,13 @@ unfolding sight_of
 seen g e v h = subst (λ (w : Sight). w ≡ sight_of w.station w.e) (sym h) refl
 
 -- and so a prediction over it is the given station's
-pub seen_prediction : (g : Station) (e : Elements) (v : Sight) (times : List ℕ) (dt : Float) (b : Bias) (f k : ℕ) (y : Prediction)
+pub seen_prediction : (g : Station) (e : Elements) (v : Sight) (times : List ℕ) (dt : Float) (b : Bias) (f k : ℕ) (y : Result Float Refusal)
     → v ≡ sight_of g e → y ≡ prediction_of v.station times v.e dt b f k → y ≡ prediction_of g times e dt b f k
 unfolding sight_of
 seen_prediction g e v times dt b f k y h q = q ∙ ap (λ (w : Sight). prediction_of w.station times w.e dt b f k) h
 
 -- the moments t and s, the bias u, what holds within a metre w, the rotation r and the prediction y, as the calls give them
-pub predicts : (times : List ℕ) (turns : List Float) (v : Sight) (dt : Float) (b : Bias) (f k : ℕ) (t s : Instant) (u w : Float) (r : SinCos) (y : Prediction)
+pub predicts : (times : List ℕ) (turns : List Float) (v : Sight) (dt : Float) (b : Bias) (f k : ℕ) (t s : Instant) (u w : Float) (r : SinCos) (y : Result Float Refusal)
     → Rotations times turns → k < length times → v ≡ sight_of v.station v.e → t ≡ instant_of (get_or times k 0) → s ≡ instant_of (get_or times f 0)
     → u ≡ bias_at b (tau_millis_of (nanos_of t.secs t.nanos) (nanos_of s.secs s.nanos)) → w ≡ near_of b → r ≡ turn_in turns k
     → y ≡ predicted_at v (nanos_of t.secs t.nanos) r dt w u

@@ -1,7 +1,7 @@
 -- The residuals of a set of parameters and their penalised sum, in the order of the reference, for both refinements.
 -- A set is a list: a, i, raan0 and u0 of the orbit, then the biases of each pass. In the first refinement a pass has two, dt and
 -- df, in the second four, dt, df0, df1 and df2. `none` is refusal 23.
-use Rattle.std.specs.Prelude.{◌≡◌, refl, Bool, cond, List, [], ◌∷◌, ◌++◌, ℕ, zero, suc, ◌+◌, ◌*◌, length, get_or, Float}
+use Rattle.std.specs.Prelude.{◌≡◌, refl, Bool, cond, List, [], ◌∷◌, ◌++◌, ℕ, zero, suc, ◌+◌, ◌*◌, length, get_or, Float, Result, Ok, Err}
 use Rattle.std.proofs.Math.Option.{Option, none, some}
 use Rattle.std.specs.Float.Ieee.{neg, of_bits, round}
 use Rattle.float.specs.Constant.{decimal}
@@ -10,8 +10,7 @@ use Rattle.moment.specs.Time.{tau_millis_of}
 use Rattle.orbit.specs.Doppler.{predicted_of, bias_of}
 use Rattle.orbit.specs.declared.Elements.{Elements}
 use Rattle.orbit.specs.declared.doppler.Station.{Station}
-use Rattle.orbit.specs.declared.doppler.Prediction.{Prediction}
-use Rattle.orbit.specs.declared.doppler.Prediction.TheVariants.{Frequency, Refused}
+use Rattle.refusal.specs.declared.Refusal.{Refusal}
 use Rattle.residuals.specs.Samples.{Passes, nanos_at, rotation_at}
 use Rattle.residuals.specs.declared.Bias.{Bias}
 use Rattle.residuals.specs.declared.Bias.TheVariants.{Constant, Polynomial}
@@ -48,14 +47,14 @@ near_of (Polynomial d) = d.0
 
 module _ (g : Station) (times : List ℕ) where
   -- the shift of sample k, in a pass that begins with sample f: predict_frequency, or predict_frequency_poly
-  unfoldable pub prediction_of : Elements → Float → Bias → ℕ → ℕ → Prediction
+  unfoldable pub prediction_of : Elements → Float → Bias → ℕ → ℕ → Result Float Refusal
   prediction_of e dt b f k =
       let t = get_or times k 0 in
       predicted_of g e (nanos_at t) (rotation_at t) dt (near_of b) (bias_at b (tau_millis_of (nanos_at t) (nanos_at (get_or times f 0))))
 
-abbrev pub shift_of : Prediction → Option Float
-shift_of (Frequency v) = some v
-shift_of (Refused k) = none
+abbrev pub shift_of : Result Float Refusal → Option Float
+shift_of (Ok v) = some v
+shift_of (Err r) = none
 
 abbrev pub each : {A B : Type 0} → (A → B) → Option A → Option B
 each f none = none

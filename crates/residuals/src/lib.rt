@@ -32,7 +32,8 @@ ghost use Rattle.residuals.specs.Answers.{Filled, Summed};
 use float::trig::SinCos;
 use moment::Instant;
 use orbit::Elements;
-use orbit::doppler::{DfPoly, Prediction, Sight, Station};
+use orbit::doppler::{DfPoly, Sight, Station};
+use refusal::Refusal;
 
 // Parameters of 16 passes.
 pub const PARAMS: usize = 68;
@@ -199,7 +200,7 @@ fn predict_sample(
     b: Bias,
     first: usize,
     k: usize,
-) -> Prediction
+) -> Result<f64, Refusal>
     requires { Sound v.station.epoch.secs v.station.epoch.nanos × Rotations times.now turns.now × (first < length times.now) × (k < length times.now)
         × (v ≡ sight_of v.station v.e) }
     ensures { result ≡ prediction_of v.station times.now v.e dt b first k }
@@ -242,11 +243,11 @@ fn sample_residuals(
         while k < end {
             let pred = predict_sample(times, turns, sight, dt, b, first, k);
             match pred {
-                Prediction::Refused(number) => {
-                    refusal = number;
+                Err(far) => {
+                    refusal = far.number();
                     break 'passes;
                 }
-                Prediction::Frequency(v) => {
+                Ok(v) => {
                     out[k] = freqs[k] - (set.station.center_freq + v);
                 }
             }

@@ -11,7 +11,7 @@ ghost use Rattle.tle.specs.Elements.{epoch_at};
 ghost use Rattle.tle.specs.Lines.{weight_of, checksum_of, line1, line2};
 ghost use Rattle.tle.specs.Answer.{orbit_fits, Formats};
 
-use moment::{Given, Instant};
+use moment::Instant;
 use solution::SolvedOrbit;
 
 // A refusal's number and 0, or 0 and the number of bytes of the text.
@@ -89,7 +89,7 @@ pub fn format_tle_catalog(name: &[u8], orbit: SolvedOrbit, out: &mut [u8]) -> Ca
     ensures { Formats name.now orbit out.old out.new result }
 {
     let epoch = orbit.epoch;
-    let Given::At(t) = moment::instant_of(epoch) else {
+    let Ok(t) = Instant::try_from(epoch) else {
         return Catalog {
             refusal: refusal::MOMENT_RANGE,
             length: 0,

@@ -66,7 +66,7 @@ loop-k-preserved c =
       whole =
           next_sample _ _ c.loop-k.out _ _ c.loop-k.k _ _ _ c.loop-k-test.true
           (omega (arith, c.loop-k.invariant.inside, c.loop-k.invariant.room, c.loop-k-test.true))
-          (residual_is _ _ _ _ _ _ _ _ _ _ _ c.elements_of-e.ensures c.dt_of-dt.ensures c.biases_of-b.ensures (seen_prediction _ _ _ _ _ _ _ _ _ c.sight_of-sight.ensures c.predict_sample-pred.ensures) _ c.in-Frequency.is)
+          (residual_is _ _ _ _ _ _ _ _ _ _ _ c.elements_of-e.ensures c.dt_of-dt.ensures c.biases_of-b.ensures (seen_prediction _ _ _ _ _ _ _ _ _ c.sight_of-sight.ensures c.predict_sample-pred.ensures) _ c.in-Ok.is)
           c.loop-k.invariant.whole;
     }
 
@@ -95,10 +95,10 @@ returns-after-passes c =
       number = c.passes.invariant.clear ∙ ap filled_refusal whole;
     }
 
-pub returns-in-Refused : goal.returns-in-Refused
-returns-in-Refused c =
+pub returns-in-Err : goal.returns-in-Err
+returns-in-Err c =
     let pred = seen_prediction _ _ _ _ _ _ _ _ _ c.sight_of-sight.ensures c.predict_sample-pred.ensures in
     far_filled (too_far _ _ (take c.loop-k.k c.loop-k.out) _ _ c.loop-k.k _ _ c.loop-k-test.true
-    (residual_far _ _ _ _ _ _ _ _ _ _ _ c.elements_of-e.ensures c.dt_of-dt.ensures c.biases_of-b.ensures pred _ c.in-Refused.is)
+    (residual_far _ _ _ _ _ _ _ _ _ _ _ c.elements_of-e.ensures c.dt_of-dt.ensures c.biases_of-b.ensures pred _ c.in-Err.is)
     c.loop-k.invariant.whole)
-    (only_far _ _ _ _ _ _ _ pred _ c.in-Refused.is)
+    (only_far _ _ _ _ _ _ _ pred _ _ c.in-Err.is c.number-refusal.ensures)
