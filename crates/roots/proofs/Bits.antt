@@ -1,6 +1,6 @@
 -- The bit patterns of a number and of its root. Assumes nothing.
 use mathlib.Core.Path.{◌≡◌, refl, sym, ap, ◌∙◌, subst}
-use mathlib.Core.Logic.{◌⊎◌, inl, inr}
+use mathlib.Core.Logic.{inl, inr}
 use Prim.Native.Nat.{ℕ, zero, suc, ◌+◌, ◌-◌, ◌*◌, ◌/◌, ◌%◌, ◌^◌, ◌≤◌, ◌<◌}
 use native.Mathlib.Nat.{le_trans, le_of_eq, le_antisymm, lt_of_lt_of_le, lt_of_le_of_lt, lt_trans, lt_irrefl, eq-or-lt_of_le, mul-le-mul_left, mul-le-mul_right, mul-lt-mul_of_pos_left, mul-lt-mul_of_pos_right, mul_assoc, mul-one, mul-div_cancel, pow-succ', zero-add, mod-le, le_of_lt}
 use native.Mathlib.Omega.{arith}
@@ -8,7 +8,7 @@ use mathlib.Core.Bool.{Bool, true, false, not, true≢false, false≢true}
 use lib.IntN.{ℤ}
 use lib.Dec.{T, eqb, lit≤, lit<}
 use lib.Arith.{le→nltb}
-use lib.Pow.{pow-add, pow_pos, pow_mono, shl_lt}
+use lib.Pow.{pow-add, pow_pos, pow_mono, shl_lt, shl_exact}
 use lib.Ieee.{Float, nan, inf, fin, binary64, up, down, size, fits, is_nan, nan_bits, lt, of_bits, to_bits}
 use lib.Ieee.Digits.{size-le}
 use lib.Ieee.Fits.{round-fits, down_pos}
@@ -127,7 +127,20 @@ pub cube_root_of_is : (n : ℕ) → rounded cube n (icbrt n) ≡ cube_root_of n
 unfolding cube_root_of
 cube_root_of_is n = refl
 
-square_bits : (m g n q r : ℕ) → n ≡ m * 2 ^ r → g % 2 ≡ r → 4503599627370496 ≤ n → n < 18014398509481984 → g < 3068 → Nearest square (n * 2 ^ 52) q
+-- m of 53 binary digits with r more, k in all at most
+pub record Shifted (m r k : ℕ) : Type 0 where
+  pub exact : m * 2 ^ r % 2 ^ 64 ≡ m * 2 ^ r
+  pub least : 4503599627370496 ≤ m * 2 ^ r
+  pub most : m * 2 ^ r < 2 ^ k
+
+pub shifted : (m r k : ℕ) → 4503599627370496 ≤ m → m < 9007199254740992 → 53 + r ≤ k → k ≤ 64 → Shifted m r k
+shifted m r k lo hi l e = record {
+  exact = shl_exact 53 r 64 hi (le_trans l e);
+  least = le_trans lo (le_trans (le_of_eq (sym (mul-one m))) (mul-le-mul_left m (pow_pos r)));
+  most = lt_of_lt_of_le (shl_lt 53 r hi) (pow_mono l);
+}
+
+pub square_bits : (m g n q r : ℕ) → n ≡ m * 2 ^ r → g % 2 ≡ r → 4503599627370496 ≤ n → n < 18014398509481984 → g < 3068 → Nearest square (n * 2 ^ 52) q
     → (of_bits binary64 (g / 2 * 4503599627370496 + q) ≡ root_of (m * 2 ^ (g + 54))) × (g / 2 * 4503599627370496 + q < 0x7ff0000000000000)
 square_bits m g n q r s e a b c H =
     let j = g / 2 in
@@ -140,22 +153,6 @@ square_bits m g n q r s e a b c H =
 
     whole : (g r : ℕ) → g % 2 ≡ r → r + 52 + 2 * suc (g / 2) ≡ g + 54
     whole g r h = omega arith
-
--- n is m, or twice m where g is odd
-abbrev pub Even : ℕ → ℕ → ℕ → Type 0
-Even m g n = ((g % 2 ≡ 1) × (n ≡ m * 2)) ⊎ ((g % 2 ≡ 0) × (n ≡ m))
-
-pub even_in : (m g n : ℕ) → Even m g n → 4503599627370496 ≤ m → m < 9007199254740992 → (4503599627370496 ≤ n) × (n < 18014398509481984)
-even_in m g n (inl e) a b = let z = e.1 in (omega arith, omega arith)
-even_in m g n (inr e) a b = let z = e.1 in (omega arith, omega arith)
-
-pub even_bits : (m g n q : ℕ) → Even m g n → 4503599627370496 ≤ m → m < 9007199254740992 → g < 3068 → Nearest square (n * 2 ^ 52) q
-    → (of_bits binary64 (g / 2 * 4503599627370496 + q) ≡ root_of (m * 2 ^ (g + 54))) × (g / 2 * 4503599627370496 + q < 0x7ff0000000000000)
-even_bits m g n q e a b c H = let i = even_in m g n e a b in go e i.0 i.1
-  where
-    go : Even m g n → 4503599627370496 ≤ n → n < 18014398509481984 → (of_bits binary64 (g / 2 * 4503599627370496 + q) ≡ root_of (m * 2 ^ (g + 54))) × (g / 2 * 4503599627370496 + q < 0x7ff0000000000000)
-    go (inl w) l u = square_bits m g n q 1 w.1 w.0 l u c H
-    go (inr w) l u = square_bits m g n q 0 (w.1 ∙ sym (mul-one m)) w.0 l u c H
 
 pub cube_bits : (m g n q r : ℕ) → n ≡ m * 2 ^ r → g % 3 ≡ r → 4503599627370496 ≤ n → n < 36028797018963968 → g < 4090 → Nearest cube (n * 2 ^ 104) q
     → (of_bits binary64 (g / 3 * 4503599627370496 + q) ≡ cube_root_of (m * 2 ^ (g + 107))) × (g / 3 * 4503599627370496 + q < 0x7ff0000000000000)

@@ -1,11 +1,12 @@
 -- The value of a bit pattern in units, and its two parts. Assumes nothing.
-use mathlib.Core.Path.{◌≡◌, refl, sym, ap, ◌∙◌}
+use mathlib.Core.Path.{◌≡◌, refl, sym, ap, ◌∙◌, subst}
 use Prim.Native.Nat.{ℕ, zero, suc, ◌+◌, ◌-◌, ◌*◌, ◌/◌, ◌%◌, ◌^◌, ◌≤◌, ◌<◌}
-use native.Mathlib.Nat.{lt_irrefl, mul_assoc, mul-one, mul-le-mul_right, pow-succ'}
+use native.Mathlib.Nat.{le_trans, le_of_eq, lt_trans, lt_of_not-le, not-le_of_lt, mul_assoc, mul_comm, mul-le-mul_right}
 use native.Mathlib.Omega.{arith}
 use mathlib.Core.Bool.{Bool, cond}
-use lib.Dec.{eqb, eqb-suc-zero}
-use lib.Pow.{pow-add}
+use lib.Dec.{eqb, eqb-suc-zero, lit<}
+use lib.Count.{count_leading_zeros, leading_top}
+use lib.Pow.{pow-add, pow_mono, shl_exact, shl_lt}
 use Rattle.roots.specs.Parts.{pattern_units, IsParts}
 
 -- ---- by the exponent's field
@@ -44,35 +45,22 @@ normal_parts b h n = go (b / 4503599627370496) refl n (field b h)
           is = ap (λ (z : ℕ). m * 2 ^ z) (sum k) ∙ ap (λ (z : ℕ). m * z) (pow-add 2 k 52) ∙ sym (mul_assoc m (2 ^ k) (2 ^ 52)) ∙ ap (λ (z : ℕ). z * 2 ^ 52) (sym (high_units b k e));
         }
 
--- ---- a subnormal number, doubled until it has 53 digits
-pub record Doubled (b m e : ℕ) : Type 0 where
-  pub some : 0 < m
-  pub small : m < 9007199254740992
-  pub high : e ≤ 52
-  pub is : m * 2 ^ e ≡ b * 2 ^ 52
+-- ---- a subnormal number, shifted to 53 digits
+pub subnormal_digits : (b : ℕ) → 0 < b → b < 4503599627370496 → (j : ℕ) × (count_leading_zeros 64 b + suc j ≡ 64) × (2 ^ j ≤ b) × (b < 2 ^ suc j) × (j < 52)
+subnormal_digits b p h = let t = leading_top 64 b p (lt_trans h (lit< tt)) in (t.0, t.1, t.2, t.3, lt_of_not-le (λ (k : 52 ≤ t.0). not-le_of_lt h (le_trans (pow_mono k) t.2)))
 
-pub start : (b : ℕ) → 0 < b → b < 4503599627370496 → Doubled b b 52
-start b p h = record { some = p; small = omega arith; high = omega arith; is = refl }
-
--- the exponent does not come down to 0 while m has less than 53 digits: b is not 0
-pub left : (b m e : ℕ) → 0 < b → Doubled b m e → m < 4503599627370496 → 0 < e
-left b m zero B d h = absurd (clash m (mul-le-mul_right (2 ^ 52) B) (sym (mul-one m) ∙ d.is) h)
+pub subnormal_parts : (b z : ℕ) → 0 < b → b < 4503599627370496 → z ≡ count_leading_zeros 64 b - 11 → IsParts b (b * 2 ^ z % 2 ^ 64) (52 - z)
+subnormal_parts b z p h e = let t = subnormal_digits b p h in go t.0 (omega (arith, t.1, t.4)) t.2 t.3
   where
-    clash : (m : ℕ) → 1 * 2 ^ 52 ≤ b * 2 ^ 52 → m ≡ b * 2 ^ 52 → m < 4503599627370496 → ⊥
-    clash m l e h = omega arith
-left b m (suc e) B d h = omega arith
-
-pub turn : (b m e : ℕ) → 0 < e → Doubled b m e → m < 4503599627370496 → Doubled b (m * 2) (e - 1)
-turn b m zero E d h = absurd (lt_irrefl 0 E)
-turn b m (suc e) E d h = record {
-  some = omega (arith, d.some);
-  small = omega arith;
-  high = omega (arith, d.high);
-  is = ap (λ (z : ℕ). m * 2 * 2 ^ z) (back e) ∙ mul_assoc m 2 (2 ^ e) ∙ ap (λ (z : ℕ). m * z) (sym (pow-succ' 2 e)) ∙ d.is;
-}
-  where
-    back : (e : ℕ) → suc e - 1 ≡ e
-    back e = omega arith
-
-pub doubled_parts : (b m e : ℕ) → b < 4503599627370496 → Doubled b m e → 4503599627370496 ≤ m → IsParts b m e
-doubled_parts b m e l d h = record { least = h; most = d.small; small = omega (arith, d.high); is = d.is ∙ ap (λ (z : ℕ). z * 2 ^ 52) (sym (low_units b l)) }
+    go : (j : ℕ) → z + j ≡ 52 → 2 ^ j ≤ b → b < 2 ^ suc j → IsParts b (b * 2 ^ z % 2 ^ 64) (52 - z)
+    go j e lo hi =
+        let exact : b * 2 ^ z % 2 ^ 64 ≡ b * 2 ^ z = shl_exact (suc j) z 64 hi (omega arith) in
+        let back : 52 - z ≡ j = omega arith in
+        let full : 2 ^ z * 2 ^ j ≡ 2 ^ 52 = sym (pow-add 2 z j) ∙ ap (λ (k : ℕ). 2 ^ k) e in
+        let sum : suc j + z ≡ 53 = omega arith in
+        rw (exact, back) (record {
+          least = le_trans (le_of_eq (sym full ∙ mul_comm (2 ^ z) (2 ^ j))) (mul-le-mul_right (2 ^ z) lo);
+          most = subst (λ (k : ℕ). b * 2 ^ z < 2 ^ k) sum (shl_lt (suc j) z hi);
+          small = omega arith;
+          is = mul_assoc b (2 ^ z) (2 ^ j) ∙ ap (λ (y : ℕ). b * y) full ∙ ap (λ (y : ℕ). y * 2 ^ 52) (sym (low_units b h));
+        })

@@ -1,5 +1,5 @@
 -- What it means to be nearest to a root. There are no real numbers here, so it is said of powers. Definitions only.
-use Rattle.std.specs.Prelude.{◌≡◌, ℕ, ◌+◌, ◌-◌, ◌*◌, ◌≤◌, ◌<◌}
+use Rattle.std.specs.Prelude.{ℕ, ◌+◌, ◌-◌, ◌*◌, ◌≤◌, ◌<◌}
 
 -- q is the whole number nearest to the root of n: the powers of q - 1/2 and q + 1/2 lie on either side of n. There are no ties: no odd number's power is a multiple of 2's.
 pub record Nearest (power : ℕ → ℕ) (n q : ℕ) : Type 0 where
@@ -11,8 +11,3 @@ pub record Nearest (power : ℕ → ℕ) (n q : ℕ) : Type 0 where
 pub record AtLeastAsNear (power : ℕ → ℕ) (n b c : ℕ) : Type 0 where
   pub to_larger : b < c → n ≤ power (b + c)
   pub to_smaller : c < b → power (b + c) ≤ n
-
--- high * 2 ^ 54 + low is x * y, and low has 54 binary digits
-pub record IsProduct (x y high low : ℕ) : Type 0 where
-  pub is : high * 18014398509481984 + low ≡ x * y
-  pub small : low < 18014398509481984

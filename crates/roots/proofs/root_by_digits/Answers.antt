@@ -8,6 +8,7 @@ use Rattle.roots.specs.Power.{square}
 use Rattle.roots.specs.Nearest.{Nearest}
 use Rattle.roots.proofs.Square.{by_rest}
 use Rattle.roots.proofs.root_by_digits.Invariants.{Taken}
+use Rattle.roots.proofs.root_by_digits.Goals.{then-rem-root, else-rem-root}
 use Rattle.roots.proofs.root_by_digits.Goals as goal
 
 small : {m rest root rem i : ℕ} → Taken m rest root rem i → root < 9007199254740992
@@ -70,58 +71,62 @@ down n zero rem e h p = absurd (none n rem e h p)
     none n rem e h p = omega arith
 down n (suc r) rem e h p = by_rest n (suc r) (omega arith) (omega arith) (omega arith)
 
-pub loop-i-init : goal.loop-i-init
-loop-i-init c = record { low = omega arith; digits = omega arith; room = omega arith; is = omega arith }
+some : (k : ℕ) → k < 53 → 0 < 53 - k
+some k h = omega arith
 
-pub overflow_sub-i : goal.overflow_sub-i
-overflow_sub-i c = omega arith
+next : (k : ℕ) → 53 - k - 1 ≡ 53 - (k + 1)
+next k = omega arith
+
+none-left : (k : ℕ) → 53 ≤ k → 53 - k ≤ 0
+none-left k h = omega arith
+
+pub loop-init : goal.loop-init
+loop-init c = record { low = omega arith; digits = omega arith; room = omega arith; is = omega arith }
 
 pub overflow_mul-rem : goal.overflow_mul-rem
-overflow_mul-rem c = omega (arith, small c.loop-i.invariant, c.loop-i.invariant.low)
+overflow_mul-rem c = omega (arith, small c.loop.invariant, c.loop.invariant.low)
 
 pub overflow_add-rem : goal.overflow_add-rem
-overflow_add-rem c = omega (arith, small c.loop-i.invariant, c.loop-i.invariant.low, c.loop-i.invariant.digits)
+overflow_add-rem c = omega (arith, small c.loop.invariant, c.loop.invariant.low, c.loop.invariant.digits)
 
 pub overflow_mul-rest : goal.overflow_mul-rest
 overflow_mul-rest c = omega arith
 
 pub overflow_mul-root : goal.overflow_mul-root
-overflow_mul-root c = omega (arith, small c.loop-i.invariant)
+overflow_mul-root c = omega (arith, small c.loop.invariant)
 
-pub overflow_mul-root-in-loop-i : goal.overflow_mul-root-in-loop-i
-overflow_mul-root-in-loop-i c = omega (arith, small c.loop-i.invariant)
+pub overflow_mul-root-in-loop : goal.overflow_mul-root-in-loop
+overflow_mul-root-in-loop c = omega (arith, small c.loop.invariant)
 
 pub overflow_mul-rem-then-rem-root : goal.overflow_mul-rem-then-rem-root
-overflow_mul-rem-then-rem-root c = omega (arith, small c.loop-i.invariant)
+overflow_mul-rem-then-rem-root c = omega (arith, small c.loop.invariant)
 
 pub overflow_add-rem-then-rem-root : goal.overflow_add-rem-then-rem-root
-overflow_add-rem-then-rem-root c = omega (arith, small c.loop-i.invariant)
+overflow_add-rem-then-rem-root c = omega (arith, small c.loop.invariant)
 
 pub overflow_sub-rem : goal.overflow_sub-rem
 overflow_sub-rem c = omega arith
 
 pub overflow_add-root : goal.overflow_add-root
-overflow_add-root c = omega (arith, small c.loop-i.invariant)
+overflow_add-root c = omega (arith, small c.loop.invariant)
 
-pub loop-i-smaller-then-rem-root : goal.loop-i-smaller-then-rem-root
-loop-i-smaller-then-rem-root c = omega arith
-
-pub loop-i-preserved-then-rem-root : goal.loop-i-preserved-then-rem-root
-loop-i-preserved-then-rem-root c = let l = c.loop-i in one c.args.m l.rest l.root l.rem l.i l.invariant c.loop-i-test.true c.if-rem-root.true
-
-pub loop-i-smaller : goal.loop-i-smaller
-loop-i-smaller c = omega arith
-
-pub loop-i-preserved : goal.loop-i-preserved
-loop-i-preserved c = let l = c.loop-i in none c.args.m l.rest l.root l.rem l.i l.invariant c.loop-i-test.true c.if-rem-root.false
+pub loop-preserved : goal.loop-preserved
+loop-preserved c =
+    let l = c.loop in
+    let m = c.args.m in
+    let p = some l.counter c.loop-test.true in
+    subst (λ (i : ℕ). Taken m (l.rest % 4503599627370496 * 4) c.if-rem-root.root c.if-rem-root.rem i) (next l.counter) (elim c.if-rem-root.branch [
+      | then-rem-root w ↦ rw (w.root-is, w.rem-is) (one m l.rest l.root l.rem (53 - l.counter) l.invariant p w.if-rem-root.true)
+      | else-rem-root w ↦ rw (w.root-is, w.rem-is) (none m l.rest l.root l.rem (53 - l.counter) l.invariant p w.if-rem-root.false)
+    ])
 
 pub overflow_add-result : goal.overflow_add-result
-overflow_add-result c = omega (arith, small c.loop-i.invariant)
+overflow_add-result c = omega (arith, small c.loop.invariant)
 
 pub returns-then-rem-root-2 : goal.returns-then-rem-root-2
-returns-then-rem-root-2 c = let l = c.loop-i in
-    up (c.args.m * 2 ^ 52) l.root l.rem (whole c.args.m l.rest l.root l.rem l.i l.invariant c.loop-i-test.false) l.invariant.low c.if-rem-root-2.true
+returns-then-rem-root-2 c = let l = c.loop in
+    up (c.args.m * 2 ^ 52) l.root l.rem (whole c.args.m l.rest l.root l.rem (53 - l.counter) l.invariant (none-left l.counter c.loop-test.false)) l.invariant.low c.if-rem-root-2.true
 
 pub returns-else-rem-root-2 : goal.returns-else-rem-root-2
-returns-else-rem-root-2 c = let l = c.loop-i in
-    down (c.args.m * 2 ^ 52) l.root l.rem (whole c.args.m l.rest l.root l.rem l.i l.invariant c.loop-i-test.false) c.if-rem-root-2.false (mul-pos c.requires.0 (pow_pos 52))
+returns-else-rem-root-2 c = let l = c.loop in
+    down (c.args.m * 2 ^ 52) l.root l.rem (whole c.args.m l.rest l.root l.rem (53 - l.counter) l.invariant (none-left l.counter c.loop-test.false)) c.if-rem-root-2.false (mul-pos c.requires.0 (pow_pos 52))

@@ -14,21 +14,21 @@ held c = subst T (sym c.well_formed.0.1) tt
 pub float_to_bits-b : goal.float_to_bits-b
 float_to_bits-b c = lt_no_nan _ _ c.if-x.true
 
-pub returns-then-b-ge9218868437227405312 : goal.returns-then-b-ge9218868437227405312
+pub returns-then-b-ge-INFINITY : goal.returns-then-b-ge-INFINITY
 unfolding of_bits
-returns-then-b-ge9218868437227405312 c = sqrt_inf c.args.x (of_inf c.args.x (held (goal.at.returns-then-b-ge9218868437227405312 c).Start) c.if-x.true c.if-b-ge9218868437227405312.true)
+returns-then-b-ge-INFINITY c = sqrt_inf c.args.x (of_inf c.args.x (held (goal.at.returns-then-b-ge-INFINITY c).Start) c.if-x.true c.if-b-ge-INFINITY.true)
 
 pub split-p-requires : goal.split-p-requires
 unfolding of_bits
-split-p-requires c = (bits_pos c.args.x (held (goal.at.split-p-requires c).Start) c.if-x.true, c.if-b-ge9218868437227405312.false)
+split-p-requires c = (bits_pos c.args.x (held (goal.at.split-p-requires c).Start) c.if-x.true, c.if-b-ge-INFINITY.false)
 
 pub float_from_bits-result : goal.float_from_bits-result
 float_from_bits-result c = no_nan c.root_bits.result c.root_bits.ensures.1
 
-pub returns-else-b-ge9218868437227405312 : goal.returns-else-b-ge9218868437227405312
+pub returns-else-b-ge-INFINITY : goal.returns-else-b-ge-INFINITY
 unfolding of_bits
-returns-else-b-ge9218868437227405312 c =
-    c.root_bits.ensures.0 ∙ sqrt_parts c.args.x (held (goal.at.returns-else-b-ge9218868437227405312 c).Start) c.if-x.true c.if-b-ge9218868437227405312.false _ _ c.split-p.ensures
+returns-else-b-ge-INFINITY c =
+    c.root_bits.ensures.0 ∙ sqrt_parts c.args.x (held (goal.at.returns-else-b-ge-INFINITY c).Start) c.if-x.true c.if-b-ge-INFINITY.false _ _ c.split-p.ensures
 
 pub returns-then-x-2 : goal.returns-then-x-2
 unfolding of_bits

@@ -14,13 +14,13 @@ held c = subst T (sym c.well_formed.0.1) tt
 pub float_to_bits-b : goal.float_to_bits-b
 float_to_bits-b c = lt_no_nan _ _ c.if-x.true
 
-pub returns-then-b-ge9218868437227405312 : goal.returns-then-b-ge9218868437227405312
+pub returns-then-b-ge-INFINITY : goal.returns-then-b-ge-INFINITY
 unfolding of_bits
-returns-then-b-ge9218868437227405312 c = cbrt_inf c.args.x (of_inf c.args.x (held (goal.at.returns-then-b-ge9218868437227405312 c).Start) c.if-x.true c.if-b-ge9218868437227405312.true)
+returns-then-b-ge-INFINITY c = cbrt_inf c.args.x (of_inf c.args.x (held (goal.at.returns-then-b-ge-INFINITY c).Start) c.if-x.true c.if-b-ge-INFINITY.true)
 
 pub split-p-requires : goal.split-p-requires
 unfolding of_bits
-split-p-requires c = (bits_pos c.args.x (held (goal.at.split-p-requires c).Start) c.if-x.true, c.if-b-ge9218868437227405312.false)
+split-p-requires c = (bits_pos c.args.x (held (goal.at.split-p-requires c).Start) c.if-x.true, c.if-b-ge-INFINITY.false)
 
 pub float_from_bits-result : goal.float_from_bits-result
 float_from_bits-result c = no_nan c.cube_root_bits.result c.cube_root_bits.ensures.1
@@ -28,16 +28,16 @@ float_from_bits-result c = no_nan c.cube_root_bits.result c.cube_root_bits.ensur
 pub returns-then-x : goal.returns-then-x
 unfolding of_bits
 returns-then-x c =
-    c.cube_root_bits.ensures.0 ∙ cbrt_parts c.args.x (held (goal.at.returns-then-x c).Start) c.if-x.true c.if-b-ge9218868437227405312.false _ _ c.split-p.ensures
+    c.cube_root_bits.ensures.0 ∙ cbrt_parts c.args.x (held (goal.at.returns-then-x c).Start) c.if-x.true c.if-b-ge-INFINITY.false _ _ c.split-p.ensures
 
 pub returns-then-x-2 : goal.returns-then-x-2
 unfolding of_bits
 returns-then-x-2 c = cbrt_zero c.args.x c.if-x-2.true
 
-pub returns-then-x-infinity : goal.returns-then-x-infinity
+pub returns-then-x-3 : goal.returns-then-x-3
 unfolding of_bits div neg
-returns-then-x-infinity c = cbrt_bottom c.args.x c.if-x-infinity.true
+returns-then-x-3 c = cbrt_bottom c.args.x c.if-x-3.true
 
-pub returns-else-x-infinity : goal.returns-else-x-infinity
+pub returns-else-x-3 : goal.returns-else-x-3
 unfolding of_bits div neg
-returns-else-x-infinity c = cbrt_rest c.args.x c.if-x.false c.if-x-2.false c.if-x-infinity.false
+returns-else-x-3 c = cbrt_rest c.args.x c.if-x.false c.if-x-2.false c.if-x-3.false
