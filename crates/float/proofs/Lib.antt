@@ -3,9 +3,6 @@ pub mod Angle
 pub mod Rest
 pub mod Own
 pub mod Saturate
-pub mod Wholes
-pub mod Floors
-pub mod Rounds
 pub mod Signs
 pub mod Order
 pub mod Halves
@@ -13,3 +10,4 @@ pub mod Binade
 pub mod Logs
 pub mod Powers
 pub mod Doubling
+pub mod Library

@@ -1,18 +1,18 @@
 -- What the tests of `ln` say. Assumes nothing.
 use Rattle.std.proofs.Common.{◌≡◌, ℕ, zero, suc, ◌+◌, ◌*◌, ◌/◌, ◌%◌, ◌^◌, ◌<◌, ◌≤◌, Bool, true, false, not, T, ℤ, sym, refl, ap, ◌∙◌, subst, true≢false, le_trans, le_of_eq, lt_of_lt_of_le, lt_of_le_of_lt, lt_irrefl, mul-le-mul_right, zero-lt-suc, mul_assoc, mul_comm, mul-le-mul_left, mul-pos, one-mul, mul-one, mul_right_comm, le_of_mul-le-mul_right, arith, lit≤, pow_mono, pow-add, ltb-false, ltb-true, le-ltb}
 use lib.IntN.{sub_ℕ}
-use lib.Ieee.{Float, nan, inf, fin, binary64, up, down, lt, eq, ne, is_nan, mul, div, of_bits, to_bits, fits, of_int}
+use lib.Ieee.{Float, nan, inf, fin, binary64, up, down, lt, eq, is_nan, mul, of_bits, to_bits, fits, of_int}
 use lib.Ieee.Fits.{up_pos, down_pos, mul-fits}
 use lib.Ieee.Exact.{HasValue}
-use Rattle.float.specs.Ops.{bits, ◌⊗◌, ◌⊘◌}
+use Rattle.float.specs.Ops.{bits, ◌⊗◌}
 use Rattle.float.specs.Log.{log_of, ln_of}
 use Rattle.float.proofs.Own.{held, scaled}
-use Rattle.float.proofs.Signs.{nan_test, none, zero_is}
+use Rattle.float.proofs.Signs.{none, zero_is}
 use Rattle.float.proofs.Binade.{log_fields}
 
--- 1/0, the smallest normal number, and 2^54, as the code has them
+-- infinity, the smallest normal number, and 2^54, as the code has them
 abbrev infinity : Float
-infinity = bits 0x3ff0000000000000 ⊘ bits 0
+infinity = bits 0x7ff0000000000000
 
 abbrev tiny : Float
 tiny = bits 0x0010000000000000
@@ -20,14 +20,11 @@ tiny = bits 0x0010000000000000
 abbrev scale : Float
 scale = bits 0x4350000000000000
 
-pub ln_nan : (v : Float) → ne v v ≡ true → v ≡ ln_of v
-unfolding ln_of
-ln_nan v h = go v (sym (nan_test v) ∙ h)
-  where
-    go : (v : Float) → is_nan v ≡ true → v ≡ ln_of v
-    go nan h = refl
-    go (inf s) h = absurd (true≢false (sym h ∙ (unfold is_nan in refl)))
-    go (fin s m e) h = absurd (true≢false (sym h ∙ (unfold is_nan in refl)))
+pub ln_nan : (v : Float) → is_nan v ≡ true → v ≡ ln_of v
+unfolding is_nan ln_of
+ln_nan nan h = refl
+ln_nan (inf s) h = absurd (true≢false (sym h))
+ln_nan (fin s m e) h = absurd (true≢false (sym h))
 
 pub ln_below : (v : Float) → lt v (bits 0) ≡ true → nan ≡ ln_of v
 unfolding lt of_bits ln_of
@@ -49,7 +46,7 @@ ln_zero (fin s zero e) h = refl
 ln_zero (fin s (suc n) e) h = absurd (some n e (none s (suc n) e h))
 
 pub ln_infinity : (v : Float) → eq v infinity ≡ true → v ≡ ln_of v
-unfolding eq div of_bits ln_of
+unfolding eq of_bits ln_of
 ln_infinity nan h = refl
 ln_infinity (inf true) h = absurd (true≢false (sym h))
 ln_infinity (inf false) h = refl
@@ -57,13 +54,13 @@ ln_infinity (fin s m e) h = absurd (true≢false (sym h))
 
 -- ---- numbers above zero
 pub record Above (v : Float) : Type 0 where
-  pub number : ne v v ≡ false
+  pub number : is_nan v ≡ false
   pub positive : lt v (bits 0) ≡ false
   pub nonzero : eq v (bits 0) ≡ false
   pub finite : eq v infinity ≡ false
 
 pub is_number : (v : Float) → Above v → T (not (is_nan v))
-is_number v a = subst (λ (x : Bool). T (not x)) (sym (sym (nan_test v) ∙ a.number)) tt
+is_number v a = subst (λ (x : Bool). T (not x)) (sym a.number) tt
 
 minus : (n : ℕ) (d : ℤ) → lt (fin true (suc n) d) (bits 0) ≡ false → ⊥
 unfolding lt of_bits
@@ -72,9 +69,9 @@ minus n d h = omega (arith, mul-pos (zero-lt-suc n) (up_pos d), ltb-false 0 (suc
 -- a law of a number above zero holds of every v that passes the tests
 module _ (P : Float → Type 0) (law : (n : ℕ) (d : ℤ) → P (fin false (suc n) d)) where
   above : (v : Float) → Above v → P v
-  above nan a = unfold ne eq in absurd (true≢false a.number)
+  above nan a = unfold is_nan in absurd (true≢false a.number)
   above (inf true) a = unfold lt of_bits in absurd (true≢false a.positive)
-  above (inf false) a = unfold eq div of_bits in absurd (true≢false a.finite)
+  above (inf false) a = unfold eq of_bits in absurd (true≢false a.finite)
   above (fin s zero d) a = absurd (true≢false (sym (zero_is s d) ∙ a.nonzero))
   above (fin true (suc n) d) a = absurd (minus n d a.positive)
   above (fin false (suc n) d) a = law n d

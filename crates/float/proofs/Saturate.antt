@@ -1,86 +1,11 @@
--- What the tests before a saturating cast say of its answer. Assumes nothing.
-use Rattle.std.proofs.Common.{◌≡◌, ℕ, ◌+◌, ◌-◌, ◌*◌, ◌/◌, ◌^◌, ◌<◌, ◌≤◌, min, true, false, pos, neg_ℤ, sym, refl, ap, true≢false, div-lt_iff_lt-mul, le-div_iff_mul-le, arith, ltb-false, ltb-true}
+-- What a saturating cast gives. Assumes nothing.
+use Rattle.std.proofs.Common.{◌≡◌, ℕ, ◌+◌, ◌-◌, ◌*◌, ◌/◌, ◌^◌, ◌<◌, min, true, false, pos, neg_ℤ, sym, refl, ap, true≢false, div-lt_iff_lt-mul, arith, ltb-false, ltb-true}
 use native.Mathlib.Nat.{zero-div}
-use lib.Ieee.{Float, nan, inf, fin, up, down, lt, le, neg, of_bits, to_unsigned, to_signed}
+use lib.Ieee.{Float, nan, inf, fin, up, down, lt, neg, of_bits, to_unsigned, to_signed}
 use lib.Ieee.Fits.{down_pos}
 use lib.Ieee.Nearest.{div_same}
 use lib.Ieee.Exact.{HasValue}
-use Rattle.laws.proofs.Tests.{or_left}
 use Rattle.float.specs.Ops.{bits}
-
--- 2^64 and above
-pub high_u64 : (x : Float) → lt (neg (bits 0x3ff0000000000000)) x ≡ true → lt x (bits 0x43f0000000000000) ≡ false → 18446744073709551615 ≡ to_unsigned 64 x
-unfolding lt neg of_bits to_unsigned
-high_u64 nan p q = absurd (true≢false (sym p))
-high_u64 (inf true) p q = absurd (true≢false (sym p))
-high_u64 (inf false) p q = refl
-high_u64 (fin true m e) p q = absurd (no (down e) (m * up e * 1) (down_pos e) (ltb-false 0 (m * up e * 1 + 18446744073709551616 * down e) q))
-  where
-    no : (d x : ℕ) → 0 < d → x + 18446744073709551616 * d ≤ 0 → ⊥
-    no d x h k = omega arith
-high_u64 (fin false m e) p q =
-    let l : 18446744073709551616 * down e ≤ m * up e = omega (arith, ltb-false (m * up e * 1) (18446744073709551616 * down e) q) in
-    let d : 18446744073709551616 ≤ m * up e / down e = (le-div_iff_mul-le (down_pos e)).1 l in
-    omega arith
-
--- -1 and below, and NaN
-pub low_u64 : (x : Float) → lt (neg (bits 0x3ff0000000000000)) x ≡ false → 0 ≡ to_unsigned 64 x
-unfolding lt neg of_bits to_unsigned
-low_u64 nan p = refl
-low_u64 (inf true) p = refl
-low_u64 (inf false) p = absurd (true≢false p)
-low_u64 (fin true m e) p = refl
-low_u64 (fin false m e) p = absurd (no (down e) (m * up e * 1) (down_pos e) (ltb-false 0 (1 * down e + m * up e * 1) p))
-  where
-    no : (d x : ℕ) → 0 < d → 1 * d + x ≤ 0 → ⊥
-    no d x h k = omega arith
-
--- 2^63 and above
-pub high_i64 : (x : Float) → le (neg (bits 0x43e0000000000000)) x ≡ true → lt x (bits 0x43e0000000000000) ≡ false → pos 9223372036854775807 ≡ to_signed 63 x
-unfolding lt le neg of_bits to_signed
-high_i64 nan p q = absurd (true≢false (sym p))
-high_i64 (inf true) p q = absurd (true≢false (sym p))
-high_i64 (inf false) p q = refl
-high_i64 (fin true m e) p q = absurd (no (down e) (m * up e * 1) (down_pos e) (ltb-false 0 (m * up e * 1 + 9223372036854775808 * down e) q))
-  where
-    no : (d x : ℕ) → 0 < d → x + 9223372036854775808 * d ≤ 0 → ⊥
-    no d x h k = omega arith
-high_i64 (fin false m e) p q =
-    let l : 9223372036854775808 * down e ≤ m * up e = omega (arith, ltb-false (m * up e * 1) (9223372036854775808 * down e) q) in
-    let d : 9223372036854775808 ≤ m * up e / down e = (le-div_iff_mul-le (down_pos e)).1 l in
-    let g : 9223372036854775807 ≡ min (m * up e / down e) (2 ^ 63 - 1) = omega arith in
-    ap pos g
-
--- below -2^63
-pub low_i64 : (x : Float) → le (neg (bits 0x43e0000000000000)) x ≡ false → lt x (bits 0) ≡ true → neg_ℤ (pos 9223372036854775808) ≡ to_signed 63 x
-unfolding lt le neg of_bits to_signed
-low_i64 nan p q = absurd (true≢false (sym q))
-low_i64 (inf true) p q = refl
-low_i64 (inf false) p q = absurd (true≢false (sym q))
-low_i64 (fin true m e) p q =
-    let l : 9223372036854775808 * down e ≤ m * up e = omega (arith, ltb-false (m * up e * 1) (9223372036854775808 * down e) (or_left _ _ p)) in
-    let d : 9223372036854775808 ≤ m * up e / down e = (le-div_iff_mul-le (down_pos e)).1 l in
-    let g : 9223372036854775808 ≡ min (m * up e / down e) (2 ^ 63) = omega arith in
-    ap (λ (n : ℕ). neg_ℤ (pos n)) g
-low_i64 (fin false m e) p q = absurd (no (m * up e) (down e) (ltb-true (m * up e * 1) (0 * down e) q))
-  where
-    no : (x d : ℕ) → x * 1 < 0 * d → ⊥
-    no x d h = omega arith
-
--- NaN
-pub nan_i64 : (x : Float) → le (neg (bits 0x43e0000000000000)) x ≡ false → lt x (bits 0) ≡ false → pos 0 ≡ to_signed 63 x
-unfolding lt le neg of_bits to_signed
-nan_i64 nan p q = refl
-nan_i64 (inf true) p q = absurd (true≢false q)
-nan_i64 (inf false) p q = absurd (true≢false p)
-nan_i64 (fin true m e) p q =
-    let z : m * up e ≡ 0 = omega (arith, ltb-false 0 (m * up e * 1 + 0 * down e) q) in
-    let g : 0 ≡ min (m * up e / down e) (2 ^ 63) = rw z (rw zero-div refl) in
-    ap (λ (n : ℕ). neg_ℤ (pos n)) g
-nan_i64 (fin false m e) p q = absurd (no (down e) (m * up e * 1) (down_pos e) (ltb-false 0 (9223372036854775808 * down e + m * up e * 1) (or_left _ _ p)))
-  where
-    no : (d x : ℕ) → 0 < d → 9223372036854775808 * d + x ≤ 0 → ⊥
-    no d x h k = omega arith
 
 -- a signed cast by the size of x
 pub signed_below : (x : Float) → lt x (bits 0) ≡ true → to_signed 63 x ≡ neg_ℤ (pos (min (to_unsigned 64 (neg x)) (2 ^ 63)))

@@ -51,32 +51,38 @@ fn difference(a: u64, b: u64) -> f64
     }
 }
 
+// 2^52: one in the exponent's field of a bit pattern. The digits below the leading one are less.
+const DIGITS: u64 = 1 << 52;
+
+// The bit pattern of 1.0.
+const ONE: u64 = 0x3ff0000000000000;
+
 // The logarithm by the fields of a bit pattern b: the digits make m, and the exponent's field less bias is e.
 fn log_of_bits(b: u64, bias: u64) -> f64
-    ensures { result ≡ log_of (bits (b % 4503599627370496 + 0x3ff0000000000000)) (of_int binary64 (sub_ℕ (b / 4503599627370496) bias)) }
+    ensures { result ≡ log_of (bits (b % DIGITS + ONE)) (of_int binary64 (sub_ℕ (b / DIGITS) bias)) }
 {
-    let m = f64::from_bits(b % 4503599627370496 + 0x3ff0000000000000);
-    log(m, difference(b / 4503599627370496, bias))
+    let m = f64::from_bits(b % DIGITS + ONE);
+    log(m, difference(b / DIGITS, bias))
 }
 
 pub fn ln(v: f64) -> f64
     ensures { result ≡ ln_of v }
 {
-    if v != v {
+    if v.is_nan() {
         return v;
     }
     if v < 0.0 {
-        return 0.0 / 0.0;
+        return f64::NAN;
     }
     if v == 0.0 {
-        return -1.0 / 0.0;
+        return f64::NEG_INFINITY;
     }
-    if v == 1.0 / 0.0 {
+    if v == f64::INFINITY {
         return v;
     }
-    if v < 2.2250738585072014e-308 {
+    if v < f64::MIN_POSITIVE {
         // 2^54 times a subnormal number is exact, and normal
-        return log_of_bits(f64::to_bits(v * 18014398509481984.0), 1077);
+        return log_of_bits((v * 18014398509481984.0).to_bits(), 1077);
     }
-    log_of_bits(f64::to_bits(v), 1023)
+    log_of_bits(v.to_bits(), 1023)
 }

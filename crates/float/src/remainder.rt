@@ -9,10 +9,7 @@ ghost use Rattle.float.specs.Ops.{bits, ◌⊕◌, ◌⊖◌, ◌⊛◌};
 fn twice_fits(s: f64, v: f64) -> bool
     ensures { result ≡ (lt s (bits 0x7fe0000000000000) && not (lt v (s ⊕ s))) }
 {
-    if s < 8.98846567431158e307 {
-        return !(v < s + s);
-    }
-    false
+    s < 8.98846567431158e307 && !(v < s + s)
 }
 
 fn taken(r: f64, s: f64) -> f64
@@ -29,50 +26,29 @@ fn by_steps(v: f64, d: f64) -> f64
     let mut s = d;
     let mut n = 0u32;
     while twice_fits(s, v) {
-        s = s + s;
-        n = n + 1;
+        s += s;
+        n += 1;
     }
     let mut r = v - s;
-    while n > 0 {
-        s = s * 0.5;
+    for _ in 0..n {
+        s *= 0.5;
         r = taken(r, s);
-        n = n - 1;
     }
     r
-}
-
-fn of_size(v: f64, d: f64) -> f64
-    requires { (lt (bits 0) d ≡ true) × (lt v d ≡ false) }
-    ensures { result ≡ v ⊛ d }
-{
-    if v < 1.0 / 0.0 {
-        return by_steps(v, d);
-    }
-    0.0 / 0.0
-}
-
-fn of_sign(v: f64, d: f64) -> f64
-    requires { lt (bits 0) d ≡ true }
-    ensures { result ≡ v ⊛ d }
-{
-    if v < d {
-        if -d < v {
-            return v;
-        }
-        return -of_size(-v, d);
-    }
-    of_size(v, d)
 }
 
 // NaN where v is no number or d is zero; the sign is v's.
 pub fn remainder(v: f64, d: f64) -> f64
     ensures { result ≡ v ⊛ d }
 {
-    if 0.0 < d {
-        return of_sign(v, d);
+    let size = v.abs();
+    let step = d.abs();
+    if !(size < f64::INFINITY && 0.0 < step) {
+        return f64::NAN;
     }
-    if d < 0.0 {
-        return of_sign(v, -d);
+    if size < step {
+        v
+    } else {
+        by_steps(size, step).copysign(v)
     }
-    0.0 / 0.0
 }

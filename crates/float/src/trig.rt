@@ -71,13 +71,7 @@ fn nearest_whole(a: f64) -> u8
 fn held(x: f64) -> f64
     ensures { result ≡ held_of x }
 {
-    if x < -1.0 {
-        -1.0
-    } else if 1.0 < x {
-        1.0
-    } else {
-        x
-    }
+    x.clamp(-1.0, 1.0)
 }
 
 // A v from one turn up to 8192 modulo one turn. Such a v is a whole multiple of 2^-50, and so is FULL: 7074237752028440 of them.
@@ -93,17 +87,13 @@ fn whole_rest(v: f64) -> f64
 fn turn_rest(v: f64) -> f64
     ensures { result ≡ v ⊛ full }
 {
-    if v < FULL {
-        if -FULL < v {
-            return v;
-        }
+    if v < FULL && -FULL < v {
+        v
+    } else if FULL <= v && v < 8192.0 {
+        whole_rest(v)
+    } else {
+        crate::remainder::remainder(v, FULL)
     }
-    if FULL <= v {
-        if v < 8192.0 {
-            return whole_rest(v);
-        }
-    }
-    crate::remainder::remainder(v, FULL)
 }
 
 fn reduce(v: f64) -> Reduced
@@ -134,14 +124,22 @@ fn reduce(v: f64) -> Reduced
 fn sin_at(q: u8, s: f64, c: f64) -> f64
     ensures { result ≡ sin_at q s c }
 {
-    if q == 0 {
-        held(s)
-    } else if q == 1 {
-        held(c)
-    } else if q == 2 {
-        held(-s)
-    } else {
-        held(-c)
+    match q {
+        0 => held(s),
+        1 => held(c),
+        2 => held(-s),
+        _ => held(-c),
+    }
+}
+
+// Sine and cosine by the quadrant.
+fn from_polys(q: u8, s: f64, c: f64) -> SinCos
+    requires { q < 4 }
+    ensures { (result.sin ≡ sin_at q s c) × (result.cos ≡ cos_at q s c) }
+{
+    SinCos {
+        sin: sin_at(q, s, c),
+        cos: sin_at((q + 1) % 4, s, c),
     }
 }
 
@@ -149,29 +147,21 @@ pub fn sin(v: f64) -> f64
     ensures { result ≡ sin_of v }
 {
     let a = reduce(v);
-    let r = a.rest;
-    sin_at(a.quadrant, sin_poly(r), cos_poly(r))
+    sin_at(a.quadrant, sin_poly(a.rest), cos_poly(a.rest))
 }
 
 pub fn cos(v: f64) -> f64
     ensures { result ≡ cos_of v }
 {
     let a = reduce(v);
-    let r = a.rest;
-    sin_at((a.quadrant + 1) % 4, sin_poly(r), cos_poly(r))
+    sin_at((a.quadrant + 1) % 4, sin_poly(a.rest), cos_poly(a.rest))
 }
 
 pub fn sin_cos(v: f64) -> SinCos
     ensures { (result.sin ≡ sin_of v) × (result.cos ≡ cos_of v) }
 {
     let a = reduce(v);
-    let r = a.rest;
-    let s = sin_poly(r);
-    let c = cos_poly(r);
-    SinCos {
-        sin: sin_at(a.quadrant, s, c),
-        cos: sin_at((a.quadrant + 1) % 4, s, c),
-    }
+    from_polys(a.quadrant, sin_poly(a.rest), cos_poly(a.rest))
 }
 
 // Two angles at once: the four polynomials stand in one straight line, so that the compiler may pack them.
@@ -209,15 +199,4 @@ pub fn sin_cos_pair(u: f64, v: f64) -> Pair
     let x = from_polys(a.quadrant, p.s, p.c);
     let y = from_polys(b.quadrant, p.t, p.d);
     Pair { u: x, v: y }
-}
-
-// Sine and cosine by the quadrant.
-fn from_polys(q: u8, s: f64, c: f64) -> SinCos
-    requires { q < 4 }
-    ensures { (result.sin ≡ sin_at q s c) × (result.cos ≡ cos_at q s c) }
-{
-    SinCos {
-        sin: sin_at(q, s, c),
-        cos: sin_at((q + 1) % 4, s, c),
-    }
 }

@@ -1,15 +1,23 @@
+use Rattle.std.proofs.Common.{◌≡◌, ◌||◌}
+use lib.Ieee.{lt, is_nan}
 use Rattle.float.specs.Ops.{min_of}
-use Rattle.float.proofs.Signs.{nan_test}
+use Rattle.float.proofs.min.Goals.{then-is_nan, else-is_nan}
 use Rattle.float.proofs.min.Goals as goal
-
-pub returns-then-v : goal.returns-then-v
-unfolding min_of
-returns-then-v c = simp (← nan_test, c.if-v.true)
 
 pub returns-then-w-v : goal.returns-then-w-v
 unfolding min_of
-returns-then-w-v c = simp (← nan_test, c.if-v.false, c.if-w-v.true)
+returns-then-w-v c =
+    let t : c.if-is_nan.value ≡ (is_nan c.args.v || lt c.args.w c.args.v) = elim c.if-is_nan.branch [
+      | then-is_nan w ↦ simp (w.value-is, ← c.is_nan.ensures.value, w.if-is_nan.true)
+      | else-is_nan w ↦ simp (w.value-is, ← c.is_nan.ensures.value, w.if-is_nan.false)
+    ] in
+    simp (← t, c.if-w-v.true)
 
 pub returns-else-w-v : goal.returns-else-w-v
 unfolding min_of
-returns-else-w-v c = simp (← nan_test, c.if-v.false, c.if-w-v.false)
+returns-else-w-v c =
+    let t : c.if-is_nan.value ≡ (is_nan c.args.v || lt c.args.w c.args.v) = elim c.if-is_nan.branch [
+      | then-is_nan w ↦ simp (w.value-is, ← c.is_nan.ensures.value, w.if-is_nan.true)
+      | else-is_nan w ↦ simp (w.value-is, ← c.is_nan.ensures.value, w.if-is_nan.false)
+    ] in
+    simp (← t, c.if-w-v.false)

@@ -1,6 +1,6 @@
-use Rattle.float.specs.Ops.{degrees_of, degrees_per_radian_bits}
+use Rattle.std.proofs.Common.{◌∙◌}
+use Rattle.float.proofs.Library.{degrees_is}
 use Rattle.float.proofs.to_degrees.Goals as goal
 
 pub returns : goal.returns
-unfolding degrees_of
-returns c = simp degrees_per_radian_bits
+returns c = c.to_degrees.ensures ∙ degrees_is c.args.v

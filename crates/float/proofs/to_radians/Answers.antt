@@ -1,6 +1,6 @@
-use Rattle.float.specs.Ops.{radians_of, radians_per_degree_bits}
+use Rattle.std.proofs.Common.{◌∙◌}
+use Rattle.float.proofs.Library.{radians_is}
 use Rattle.float.proofs.to_radians.Goals as goal
 
 pub returns : goal.returns
-unfolding radians_of
-returns c = simp radians_per_degree_bits
+returns c = c.to_radians.ensures ∙ radians_is c.args.v

@@ -1,4 +1,5 @@
-use Rattle.std.proofs.Common.{◌≡◌, ℕ, ◌+◌, ◌-◌, T, sym, ◌∙◌, subst, arith}
+use Rattle.std.proofs.Common.{◌≡◌, ℕ, ◌+◌, ◌-◌, ◌<◌, T, sym, ◌∙◌, subst, arith}
+use native.Mathlib.Nat.{sub-zero}
 use Rattle.float.proofs.Doubling.{Down, start, few_turns, go_up, turn_down, go_down, at_bottom}
 use Rattle.float.proofs.remainder.by_steps.Goals as goal
 
@@ -14,11 +15,14 @@ loop-s-smaller c = let few = few_turns c.loop-s.invariant in omega arith
 pub loop-s-preserved : goal.loop-s-preserved
 loop-s-preserved c = go_up c.loop-s.invariant (sym c.twice_fits.ensures ∙ c.loop-s-test.true)
 
-pub loop-n-init : goal.loop-n-init
-loop-n-init c = turn_down c.loop-s.invariant (sym c.twice_fits.ensures ∙ c.loop-s-test.false)
+next : (n k : ℕ) → k < n → n - k ≡ n - (k + 1) + 1
+next n k h = omega arith
 
-pub loop-n-preserved : goal.loop-n-preserved
-loop-n-preserved c = let e : c.loop-n.n ≡ c.loop-n.n - 1 + 1 = omega arith in rw c.taken-r.ensures (go_down (subst (λ (k : ℕ). Down c.args.v c.args.d c.loop-n.r c.loop-n.s k) e c.loop-n.invariant))
+pub loop-init : goal.loop-init
+loop-init c = rw sub-zero (turn_down c.loop-s.invariant (sym c.twice_fits.ensures ∙ c.loop-s-test.false))
+
+pub loop-preserved : goal.loop-preserved
+loop-preserved c = rw c.taken-r.ensures (go_down (subst (λ (k : ℕ). Down c.args.v c.args.d c.loop.r c.loop.s k) (next _ _ c.loop-test.true) c.loop.invariant))
 
 pub returns : goal.returns
-returns c = let e : c.loop-n.n ≡ 0 = omega arith in at_bottom (subst (λ (k : ℕ). Down c.args.v c.args.d c.loop-n.r c.loop-n.s k) e c.loop-n.invariant)
+returns c = let e : c.loop-s.n - c.loop.counter ≡ 0 = omega arith in at_bottom (subst (λ (k : ℕ). Down c.args.v c.args.d c.loop.r c.loop.s k) e c.loop.invariant)

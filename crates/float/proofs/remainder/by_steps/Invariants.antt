@@ -10,8 +10,5 @@ abbrev pub decreases-loop-s : goal.decreases-loop-s
 decreases-loop-s l = 2098 - l.n
 
 -- r is below s, and its remainder is v's
-abbrev pub invariant-loop-n : goal.invariant-loop-n
-invariant-loop-n l = Down l.v l.d l.r l.s l.n
-
-abbrev pub decreases-loop-n : goal.decreases-loop-n
-decreases-loop-n l = l.n
+abbrev pub invariant-loop : goal.invariant-loop
+invariant-loop l = Down l.v l.d l.r l.s (l.n - l.counter)

@@ -1,4 +1,4 @@
-use Rattle.std.proofs.Common.{◌≡◌, ℕ, zero, suc, refl}
+use Rattle.std.proofs.Common.{◌≡◌, ℕ, zero, suc, refl, arith}
 use lib.Ieee.{Float, neg}
 use Rattle.float.specs.Trig.{sin_at, pick}
 use Rattle.float.proofs.trig.sin_at.Goals as goal
@@ -9,20 +9,20 @@ pick_last (suc zero) a b c d f g h = absurd (g refl)
 pick_last (suc (suc zero)) a b c d f g h = absurd (h refl)
 pick_last (suc (suc (suc k))) a b c d f g h = refl
 
-pub returns-then-q-eq0 : goal.returns-then-q-eq0
+pub returns-in-0 : goal.returns-in-0
 unfolding sin_at
-returns-then-q-eq0 c = simp (c.held.ensures, c.if-q-eq0.true)
+returns-in-0 c = simp (c.held.ensures, c.in-0.is)
 
-pub returns-then-q-eq1 : goal.returns-then-q-eq1
+pub returns-in-1 : goal.returns-in-1
 unfolding sin_at
-returns-then-q-eq1 c = simp (c.held-then-q-eq1.ensures, c.if-q-eq1.true)
+returns-in-1 c = simp (c.held-in-1.ensures, c.in-1.is)
 
-pub returns-then-q-eq2 : goal.returns-then-q-eq2
+pub returns-in-2 : goal.returns-in-2
 unfolding sin_at
-returns-then-q-eq2 c = simp (c.held-then-q-eq2.ensures, c.if-q-eq2.true)
+returns-in-2 c = simp (c.held-in-2.ensures, c.in-2.is)
 
-pub returns-else-q-eq2 : goal.returns-else-q-eq2
+pub returns-in_default : goal.returns-in_default
 unfolding sin_at
-returns-else-q-eq2 c =
+returns-in_default c =
     let a = c.args in
-    simp (c.held-else-q-eq2.ensures, pick_last a.q a.s a.c (neg a.s) (neg a.c) c.if-q-eq0.false c.if-q-eq1.false c.if-q-eq2.false)
+    simp (c.held-in_default.ensures, pick_last a.q a.s a.c (neg a.s) (neg a.c) (λ e. omega (arith, e)) (λ e. omega (arith, e)) (λ e. omega (arith, e)))

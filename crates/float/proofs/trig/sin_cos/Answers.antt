@@ -1,16 +1,11 @@
-use Rattle.std.proofs.Common.{◌∙◌, arith}
-use Rattle.float.proofs.Angle.{sin_law, cos_law, next_quadrant, quadrant_lt}
-use Rattle.float.specs.Trig.{quadrant_of, quarters_of}
+use Rattle.std.proofs.Common.{ℕ, ◌<◌, sym, subst}
+use Rattle.float.proofs.Angle.{joined, quadrant_lt}
 use Rattle.float.proofs.trig.sin_cos.Goals as goal
 
-pub overflow_add-a : goal.overflow_add-a
-overflow_add-a c =
-    rw c.reduce-a.ensures.0 (omega (arith, quadrant_lt (quarters_of c.args.v)))
+pub from_polys-requires : goal.from_polys-requires
+from_polys-requires c = subst (λ (n : ℕ). n < 4) (sym c.reduce-a.ensures.0) (quadrant_lt _)
 
 pub returns : goal.returns
-returns c = (
-  simp (c.sin_at.ensures, c.cos_poly-c.ensures, c.sin_poly-s.ensures, c.reduce-a.ensures.0, c.reduce-a.ensures.1)
-      (sin_law c.args.v),
-  simp (c.sin_at-2.ensures, c.cos_poly-c.ensures, c.sin_poly-s.ensures, c.reduce-a.ensures.0, c.reduce-a.ensures.1)
-      (next_quadrant (quadrant_of (quarters_of c.args.v)) _ _ (quadrant_lt (quarters_of c.args.v)) ∙ cos_law c.args.v),
-)
+returns c =
+    let a = c.reduce-a.ensures in
+    joined _ _ _ _ _ _ _ a.0 a.1 c.sin_poly.ensures c.cos_poly.ensures c.from_polys.ensures.0 c.from_polys.ensures.1
