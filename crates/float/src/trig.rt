@@ -164,39 +164,25 @@ pub fn sin_cos(v: f64) -> SinCos
     from_polys(a.quadrant, sin_poly(a.rest), cos_poly(a.rest))
 }
 
-// Two angles at once: the four polynomials stand in one straight line, so that the compiler may pack them.
-#[derive(Clone, Copy)]
-struct Four {
-    pub s: f64,
-    pub c: f64,
-    pub t: f64,
-    pub d: f64,
-}
-
 #[derive(Clone, Copy)]
 pub struct Pair {
     pub u: SinCos,
     pub v: SinCos,
 }
 
-fn polys(r: f64, q: f64) -> Four
-    ensures { ((result.s ≡ sin_poly r) × (result.c ≡ cos_poly r)) × ((result.t ≡ sin_poly q) × (result.d ≡ cos_poly q)) }
-{
-    Four {
-        s: sin_poly(r),
-        c: cos_poly(r),
-        t: sin_poly(q),
-        d: cos_poly(q),
-    }
-}
-
+// Two angles at once.
 pub fn sin_cos_pair(u: f64, v: f64) -> Pair
     ensures { ((result.u.sin ≡ sin_of u) × (result.u.cos ≡ cos_of u)) × ((result.v.sin ≡ sin_of v) × (result.v.cos ≡ cos_of v)) }
 {
     let a = reduce(u);
     let b = reduce(v);
-    let p = polys(a.rest, b.rest);
-    let x = from_polys(a.quadrant, p.s, p.c);
-    let y = from_polys(b.quadrant, p.t, p.d);
-    Pair { u: x, v: y }
+    // The four polynomials stand in one straight line, so that the compiler may pack them.
+    let s = sin_poly(a.rest);
+    let c = cos_poly(a.rest);
+    let t = sin_poly(b.rest);
+    let d = cos_poly(b.rest);
+    Pair {
+        u: from_polys(a.quadrant, s, c),
+        v: from_polys(b.quadrant, t, d),
+    }
 }
