@@ -1,19 +1,18 @@
 -- The remainder by exact steps: twice a float, half of one, and a difference of two that are near each other are exact, and what is taken away is a
 -- multiple of the divisor. Assumes nothing.
-use Rattle.std.proofs.Common.{◌≡◌, ℕ, zero, suc, ◌+◌, ◌-◌, ◌*◌, ◌%◌, ◌^◌, ◌<◌, ◌≤◌, Bool, true, false, cond, T, eqb, ℤ, pos, sym, refl, ap, ◌∙◌, subst, true≢false, le_trans, le_of_lt, add-zero, mod-eq_of_lt, zero-lt-suc, suc-ne-zero, mul_assoc, mul_comm, lt_of_mul-lt-mul_right, mul-lt-mul_of_pos_right, mul-pos, one-mul, lt_of_not-le, zero-mul, mul-one, mul_right_comm, not-le_of_lt, mul-le-mul_right, lt_of_le_of_lt, lt_of_lt_of_le, arith, lit<, lit≤, pow_pos, pow-add, pow_mono, ltb-true, not, ◌&&◌, inl, inr, ◌⊎◌}
-use Rattle.std.proofs.lemmas.Bool.{ltb-false, le-ltb, lt-ltb, false≢true}
+use Rattle.std.proofs.Common.{◌≡◌, ℕ, zero, suc, ◌+◌, ◌-◌, ◌*◌, ◌%◌, ◌^◌, ◌<◌, ◌≤◌, Bool, true, false, cond, T, eqb, ltb, ℤ, pos, sym, refl, ap, ◌∙◌, subst, true≢false, le_trans, le_of_lt, add-zero, mod-eq_of_lt, zero-lt-suc, suc-ne-zero, add_comm, mul_assoc, mul_comm, lt_of_mul-lt-mul_right, mul-lt-mul_of_pos_right, mul-pos, one-mul, lt_of_not-le, zero-mul, mul-one, mul_right_comm, not-le_of_lt, mul-le-mul_right, lt_of_le_of_lt, lt_of_lt_of_le, arith, lit<, lit≤, pow_pos, pow-add, pow_mono, ltb-true, not, ◌&&◌, inl, inr, ◌⊎◌}
+use Rattle.std.proofs.lemmas.Bool.{ltb-false, le-ltb}
 use Rattle.std.proofs.Math.Nat.{add-mul-mod_self_right, eq_of_mul-eq-mul_right, mul-sub, sub-add_cancel}
 use native.Mathlib.Decide.{dec_le}
 use borrow.Author.Tests.{ne_eqb}
-use lib.Ieee.{Float, nan, inf, fin, binary64, up, down, lt, fits, round, rem, add, sub, mul, neg, sum, of_bits, is_nan}
+use lib.Ieee.{Float, nan, inf, fin, binary64, up, down, lt, fits, round, rem, add, sub, mul, neg, sum, of_bits}
 use lib.Ieee.Fits.{up_pos, down_pos}
 use lib.Ieee.Exact.{HasValue, round_exact}
 use lib.Ieee.Scale.{round_same}
 use Rattle.float.specs.Ops.{◌⊕◌, ◌⊖◌, ◌⊗◌, ◌⊛◌, bits}
-use Rattle.std.specs.Float.{NotNan, float_with_sign, is_sign_negative}
-use Rattle.float.proofs.Own.{few, places, own, held, small_rem}
+use Rattle.float.proofs.Own.{few, places, own, held}
 use Rattle.float.proofs.Rest.{mod_scale, same_mod}
-use Rattle.float.proofs.Rounding.{sign_round}
+use Rattle.float.proofs.Rounding.{neg_round}
 
 -- ---- x is q × 2^j of the format's smallest values, and q has 53 digits
 pub record Units (x : Float) (q j : ℕ) : Type 0 where
@@ -469,65 +468,81 @@ at_bottom {v} {d} {r} {s} a =
     let l : a.u * 2 ^ a.k < a.q * 2 ^ a.j = subst (λ (x : ℕ). a.u * 2 ^ a.k < a.q * 2 ^ x) (add-zero a.j) a.less in
     is_rem v d r a.p a.i a.q a.j a.u a.k a.dividend a.divisor a.rest a.some (sym (mod-eq_of_lt l) ∙ a.same)
 
--- ---- what has no remainder, and the signs
-abbrev pub size : Float → Float
-size = float_with_sign false
+-- ---- the signs, and what has no remainder
+pub no_size : (v d : Float) → lt (bits 0) d ≡ true → lt v d ≡ false → lt v (bits 0x7ff0000000000000) ≡ false → nan ≡ v ⊛ d
+unfolding lt of_bits rem
+no_size nan d p h k = refl
+no_size (inf s) d p h k = refl
+no_size (fin s m e) d p h k = absurd (true≢false k)
 
-pub no_size : (v d : Float) → lt (size v) (bits 0x7ff0000000000000) ≡ false → nan ≡ v ⊛ d
-unfolding float_with_sign lt of_bits rem
-no_size nan d h = refl
-no_size (inf s) d h = refl
-no_size (fin s m e) d h = absurd (true≢false h)
-
-pub no_divisor : (v d : Float) → lt (bits 0) (size d) ≡ false → nan ≡ v ⊛ d
-unfolding float_with_sign lt of_bits rem
-no_divisor nan d h = refl
-no_divisor (inf s) d h = refl
-no_divisor (fin s m e) nan h = refl
-no_divisor (fin s m e) (inf t) h = absurd (true≢false h)
-no_divisor (fin s m e) (fin t zero d) h = refl
-no_divisor (fin s m e) (fin t (suc n) d) h =
-    absurd (not-le_of_lt (mul-pos (zero-lt-suc n) (up_pos d)) (none (down d) (suc n * up d) (ltb-false (0 * down d) (suc n * up d * 1) h)))
+pub no_divisor : (v d : Float) → lt (bits 0) d ≡ false → lt d (bits 0) ≡ false → nan ≡ v ⊛ d
+unfolding lt of_bits rem
+no_divisor nan d p h = refl
+no_divisor (inf s) d p h = refl
+no_divisor (fin s m e) nan p h = refl
+no_divisor (fin s m e) (inf true) p h = absurd (true≢false h)
+no_divisor (fin s m e) (inf false) p h = absurd (true≢false p)
+no_divisor (fin s m e) (fin t zero d) p h = refl
+no_divisor (fin s m e) (fin false (suc n) d) p h =
+    absurd (not-le_of_lt (mul-pos (zero-lt-suc n) (up_pos d)) (none (down d) (suc n * up d) (ltb-false (0 * down d) (suc n * up d * 1) p)))
   where
     none : (a b : ℕ) → b * 1 ≤ 0 * a → b ≤ 0
     none a b h = omega (arith, h)
+no_divisor (fin s m e) (fin true (suc n) d) p h =
+    absurd (not-le_of_lt (mul-pos (zero-lt-suc n) (up_pos d)) (none (down d) (suc n * up d) (ltb-false 0 (suc n * up d * 1 + 0 * down d) h)))
+  where
+    none : (a b : ℕ) → b * 1 + 0 * a ≤ 0 → b ≤ 0
+    none a b h = omega (arith, h)
 
-pub number : (v : Float) → lt (size v) (bits 0x7ff0000000000000) ≡ true → NotNan v
-unfolding float_with_sign lt is_nan
-number nan h = false≢true h
-number (inf s) h = tt
-number (fin s m e) h = tt
+pub of_neg : (v d : Float) → v ⊛ neg d ≡ v ⊛ d
+unfolding rem neg
+of_neg nan d = refl
+of_neg (inf s) d = refl
+of_neg (fin s m e) nan = refl
+of_neg (fin s m e) (inf t) = refl
+of_neg (fin s m e) (fin t n d) = refl
 
-by_size : (v d : Float) → v ⊛ size d ≡ v ⊛ d
-unfolding float_with_sign rem
-by_size nan d = refl
-by_size (inf s) d = refl
-by_size (fin s m e) nan = refl
-by_size (fin s m e) (inf t) = refl
-by_size (fin s m e) (fin t n d) = refl
-
-between : (v d : Float) → lt (size v) (size d) ≡ true → (lt v (size d) ≡ true) × (lt (neg (size d)) v ≡ true)
-unfolding float_with_sign lt neg
-between nan d h = absurd (true≢false (sym h))
-between (inf s) nan h = absurd (true≢false (sym h))
-between (inf s) (inf t) h = absurd (true≢false (sym h))
-between (inf s) (fin t n d) h = absurd (true≢false (sym h))
-between (fin s m e) nan h = absurd (true≢false (sym h))
-between (fin true m e) (inf t) h = (refl, refl)
-between (fin false m e) (inf t) h = (refl, refl)
-between (fin true m e) (fin t n d) h = let l : m * up e * down d < n * up d * down e = ltb-true _ _ h in (lt-ltb _ _ (omega (arith, l)), h)
-between (fin false m e) (fin t n d) h = let l : m * up e * down d < n * up d * down e = ltb-true _ _ h in (h, lt-ltb _ _ (omega (arith, l)))
-
-pub smaller : (v d : Float) → T (fits binary64 v) → lt (size v) (size d) ≡ true → v ≡ v ⊛ d
-smaller v d f h = let b = between v d h in sym (small_rem v (size d) f b.0 b.1) ∙ by_size v d
-
-pub signed : (v d : Float) → float_with_sign (is_sign_negative v) (size v ⊛ size d) ≡ v ⊛ d
-unfolding float_with_sign is_sign_negative rem
-signed nan d = refl
-signed (inf s) d = refl
-signed (fin s m e) nan = refl
-signed (fin s m e) (inf t) = refl
-signed (fin s m e) (fin t zero d) = refl
-signed (fin s m e) (fin t (suc n) d) =
+pub neg_of : (v d : Float) → neg (neg v ⊛ d) ≡ v ⊛ d
+unfolding rem neg
+neg_of nan d = refl
+neg_of (inf s) d = refl
+neg_of (fin true m e) nan = refl
+neg_of (fin false m e) nan = refl
+neg_of (fin true m e) (inf t) = refl
+neg_of (fin false m e) (inf t) = refl
+neg_of (fin s m e) (fin t zero d) = refl
+neg_of (fin true m e) (fin t (suc n) d) =
     let not_zero : eqb (suc n) 0 ≡ false = ne_eqb (suc n) 0 (suc-ne-zero n) in
-    rw not_zero (sign_round binary64 s false (m * up e * down d % (suc n * up d * down e)) (down e * down d))
+    rw not_zero (neg_round binary64 false (m * up e * down d % (suc n * up d * down e)) (down e * down d))
+neg_of (fin false m e) (fin t (suc n) d) =
+    let not_zero : eqb (suc n) 0 ≡ false = ne_eqb (suc n) 0 (suc-ne-zero n) in
+    rw not_zero (neg_round binary64 true (m * up e * down d % (suc n * up d * down e)) (down e * down d))
+
+pub neg_positive : (d : Float) → lt d (bits 0) ≡ true → lt (bits 0) (neg d) ≡ true
+unfolding lt of_bits neg
+neg_positive nan h = h
+neg_positive (inf true) h = refl
+neg_positive (inf false) h = h
+neg_positive (fin false n d) h = absurd (none (down d) (n * up d) (ltb-true (n * up d * 1) (0 * down d) h))
+  where
+    none : (a b : ℕ) → b * 1 < 0 * a → ⊥
+    none a b h = omega (arith, h)
+neg_positive (fin true n d) h = ap (λ (x : ℕ). ltb x (n * up d * 1)) (zero-mul (down d)) ∙ ap (λ (x : ℕ). ltb 0 x) (sym (add-zero (n * up d * 1)) ∙ ap (λ (x : ℕ). n * up d * 1 + x) (sym (zero-mul (down d)))) ∙ h
+
+pub across : (v d : Float) → lt (neg d) v ≡ false → lt (neg v) d ≡ false
+unfolding lt neg
+across nan d h = refl
+across (inf s) nan h = refl
+across (inf true) (inf true) h = h
+across (inf true) (inf false) h = h
+across (inf false) (inf true) h = h
+across (inf false) (inf false) h = h
+across (inf true) (fin t n d) h = refl
+across (inf false) (fin t n d) h = h
+across (fin s m e) nan h = refl
+across (fin true m e) (inf t) h = h
+across (fin false m e) (inf t) h = h
+across (fin true m e) (fin true n d) h = h
+across (fin true m e) (fin false n d) h = h
+across (fin false m e) (fin true n d) h = h
+across (fin false m e) (fin false n d) h = subst (λ (x : ℕ). ltb 0 x ≡ false) (add_comm (n * up d * down e) (m * up e * down d)) h

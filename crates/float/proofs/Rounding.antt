@@ -5,7 +5,6 @@ use lib.Ieee.Exact.{HasValue}
 use lib.Ieee.Fits.{round_is, up_pos, down_pos}
 use lib.Ieee.Order.{round_mono, kept, drop}
 use lib.Ieee.Positive.{through}
-use Rattle.std.specs.Float.{float_with_sign}
 use Rattle.float.specs.Ops.{◌⊛◌}
 
 -- ---- the sign goes through
@@ -27,26 +26,6 @@ neg_round f s a c =
     ap neg (round_is f s a c)
     ∙ neg_units f s (kept (prec f) (a * 2 ^ low f) c) (drop (prec f) (a * 2 ^ low f) c)
     ∙ sym (round_is f (not s) a c)
-
--- the same for a sign that is set
-sign_odd : (d : ℕ) (s t : Bool) (q k l : ℕ) → float_with_sign s (odd d t q k l) ≡ odd d s q k l
-unfolding odd float_with_sign
-sign_odd d s t zero k l = refl
-sign_odd d s t (suc q) k l = refl
-
-sign_units : (f : Format) (s t : Bool) (q k : ℕ) → float_with_sign s (units f t q k) ≡ units f s q k
-unfolding units
-sign_units f s t q k = go (ltb (q * 2 ^ k) (2 ^ (low f + suc (emax f))))
-  where
-    go : (b : Bool) → float_with_sign s (cond b (odd (suc (prec f)) t q k (low f)) (inf t)) ≡ cond b (odd (suc (prec f)) s q k (low f)) (inf s)
-    go true = sign_odd (suc (prec f)) s t q k (low f)
-    go false = unfold float_with_sign in refl
-
-pub sign_round : (f : Format) (s t : Bool) (a c : ℕ) → float_with_sign s (round f t a c) ≡ round f s a c
-sign_round f s t a c =
-    ap (float_with_sign s) (round_is f t a c)
-    ∙ sign_units f s t (kept (prec f) (a * 2 ^ low f) c) (drop (prec f) (a * 2 ^ low f) c)
-    ∙ sym (round_is f s a c)
 
 -- ---- x is finite, has the sign s, and is at most b / d in size
 abbrev pub Within : Bool → ℕ → ℕ → Float → Type 0

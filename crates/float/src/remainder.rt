@@ -18,11 +18,14 @@ fn taken(r: f64, s: f64) -> f64
     if r < s { r } else { r - s }
 }
 
-// For numbers 0 < d <= v.
+// For 0 < d <= v; NaN where v is no number.
 fn by_steps(v: f64, d: f64) -> f64
-    requires { (lt (bits 0) d ≡ true) × (lt v d ≡ false) × (lt v (bits 0x7ff0000000000000) ≡ true) }
+    requires { (lt (bits 0) d ≡ true) × (lt v d ≡ false) }
     ensures { result ≡ v ⊛ d }
 {
+    if !(v < f64::INFINITY) {
+        return f64::NAN;
+    }
     let mut s = d;
     let mut n = 0u32;
     while twice_fits(s, v) {
@@ -37,18 +40,28 @@ fn by_steps(v: f64, d: f64) -> f64
     r
 }
 
+fn of_sign(v: f64, d: f64) -> f64
+    requires { lt (bits 0) d ≡ true }
+    ensures { result ≡ v ⊛ d }
+{
+    if v < d {
+        if -d < v {
+            return v;
+        }
+        return -by_steps(-v, d);
+    }
+    by_steps(v, d)
+}
+
 // NaN where v is no number or d is zero; the sign is v's.
 pub fn remainder(v: f64, d: f64) -> f64
     ensures { result ≡ v ⊛ d }
 {
-    let size = v.abs();
-    let step = d.abs();
-    if !(size < f64::INFINITY && 0.0 < step) {
-        return f64::NAN;
+    if 0.0 < d {
+        return of_sign(v, d);
     }
-    if size < step {
-        v
-    } else {
-        by_steps(size, step).copysign(v)
+    if d < 0.0 {
+        return of_sign(v, -d);
     }
+    f64::NAN
 }

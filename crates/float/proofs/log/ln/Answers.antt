@@ -1,5 +1,5 @@
 use Rattle.std.proofs.Common.{T, sym, ◌∙◌, subst}
-use lib.Ieee.{of_bits, div, neg}
+use lib.Ieee.{of_bits}
 use Rattle.float.proofs.Logs.{ln_nan, ln_below, ln_zero, ln_infinity, is_number, ln_normal, ln_subnormal}
 use Rattle.float.proofs.log.ln.Goals as goal
 
@@ -7,11 +7,11 @@ pub returns-then-is_nan : goal.returns-then-is_nan
 returns-then-is_nan c = ln_nan _ (sym c.is_nan.ensures.value ∙ c.if-is_nan.true)
 
 pub returns-then-v : goal.returns-then-v
-unfolding of_bits div
+unfolding of_bits
 returns-then-v c = ln_below _ c.if-v.true
 
 pub returns-then-v-2 : goal.returns-then-v-2
-unfolding of_bits div neg
+unfolding of_bits
 returns-then-v-2 c = ln_zero _ c.if-v-2.true
 
 pub returns-then-v-3 : goal.returns-then-v-3

@@ -1,10 +1,15 @@
 use Rattle.std.proofs.Common.{◌≡◌, ℕ, ◌+◌, ◌-◌, ◌<◌, T, sym, ◌∙◌, subst, arith}
 use native.Mathlib.Nat.{sub-zero}
-use Rattle.float.proofs.Doubling.{Down, start, few_turns, go_up, turn_down, go_down, at_bottom}
+use lib.Ieee.{of_bits}
+use Rattle.float.proofs.Doubling.{Down, no_size, start, few_turns, go_up, turn_down, go_down, at_bottom}
 use Rattle.float.proofs.remainder.by_steps.Goals as goal
 
+pub returns-then-not-v : goal.returns-then-not-v
+unfolding of_bits
+returns-then-not-v c = no_size _ _ c.requires.0 c.requires.1 c.if-not-v.true
+
 pub loop-s-init : goal.loop-s-init
-loop-s-init c = start c.args.v c.args.d (subst T (sym c.well_formed.0.1) tt) (subst T (sym c.well_formed.1.0.1) tt) c.requires.0 c.requires.1 c.requires.2
+loop-s-init c = start c.args.v c.args.d (subst T (sym c.well_formed.0.1) tt) (subst T (sym c.well_formed.1.0.1) tt) c.requires.0 c.requires.1 c.if-not-v.false
 
 pub overflow_add-n : goal.overflow_add-n
 overflow_add-n c = let few = few_turns c.loop-s.invariant in omega arith
