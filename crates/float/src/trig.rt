@@ -1,9 +1,9 @@
 // Document 01's sine and cosine, bit for bit.
-ghost use Rattle.std.specs.Prelude.{◌≡◌, ◌<◌, ◌≤◌, true, false};
+ghost use Rattle.std.specs.Prelude.{◌≡◌, ◌<◌, ◌≤◌, true, false, length};
 ghost use Rattle.std.specs.Float.Ieee.{le, lt};
 ghost use Rattle.float.specs.Constant.{decimal};
 ghost use Rattle.float.specs.Ops.{◌⊛◌, bits, whole_of};
-ghost use Rattle.float.specs.Trig.{sin_poly, cos_poly, held_of, sin_at, cos_at, sin_of, cos_of, rest_of, quadrant_of, quarters_of, full, is_finite};
+ghost use Rattle.float.specs.Trig.{horner, sin_poly, cos_poly, held_of, sin_at, cos_at, sin_of, cos_of, rest_of, quadrant_of, quarters_of, full, is_finite};
 
 const FULL: f64 = 6.283185307179586;
 
@@ -22,32 +22,55 @@ struct Reduced {
     pub rest: f64,
 }
 
+// The f64 nearest (-1)^k/(2k+1)!
+const SINE: [f64; 9] = [
+    1.0,
+    -0.16666666666666666,
+    0.008333333333333333,
+    -0.0001984126984126984,
+    2.7557319223985893e-06,
+    -2.505210838544172e-08,
+    1.6059043836821613e-10,
+    -7.647163731819816e-13,
+    2.8114572543455206e-15,
+];
+
+// The f64 nearest (-1)^k/(2k)!
+const COSINE: [f64; 9] = [
+    1.0,
+    -0.5,
+    0.041666666666666664,
+    -0.001388888888888889,
+    2.48015873015873e-05,
+    -2.755731922398589e-07,
+    2.08767569878681e-09,
+    -1.1470745597729725e-11,
+    4.779477332387385e-14,
+];
+
+// c0 + w * (c1 + w * (.. + w * c))
+pub(crate) fn horner(w: f64, terms: &[f64]) -> f64
+    requires { 0 < length terms.now }
+    ensures { result ≡ horner w terms.now }
+{
+    let last = terms.len() - 1;
+    let mut sum = terms[last];
+    for k in (0..last).rev() {
+        sum = terms[k] + w * sum;
+    }
+    sum
+}
+
 fn sin_poly(r: f64) -> f64
     ensures { result ≡ sin_poly r }
 {
-    let w = r * r;
-    r * (1.0
-        + w * (-0.16666666666666666
-            + w * (0.008333333333333333
-                + w * (-0.0001984126984126984
-                    + w * (2.7557319223985893e-06
-                        + w * (-2.505210838544172e-08
-                            + w * (1.6059043836821613e-10
-                                + w * (-7.647163731819816e-13 + w * 2.8114572543455206e-15))))))))
+    r * horner(r * r, &SINE)
 }
 
 fn cos_poly(r: f64) -> f64
     ensures { result ≡ cos_poly r }
 {
-    let w = r * r;
-    1.0 + w
-        * (-0.5
-            + w * (0.041666666666666664
-                + w * (-0.001388888888888889
-                    + w * (2.48015873015873e-05
-                        + w * (-2.755731922398589e-07
-                            + w * (2.08767569878681e-09
-                                + w * (-1.1470745597729725e-11 + w * 4.779477332387385e-14)))))))
+    horner(r * r, &COSINE)
 }
 
 // An a from 0 up that rounds to 4 at most, to the nearest whole number, halves up.
