@@ -25,7 +25,7 @@ parts c s = spread (s / 18014398509481984) (s % 18014398509481984) ∙ ap (λ (z
     whole : (s : ℕ) → s / 18014398509481984 * 18014398509481984 + s % 18014398509481984 ≡ s
     whole s = omega arith
 
-pub cube_test : (c m : ℕ) → m < 2 ^ 55
+pub cube_test : (c m : ℕ) → m < 2 ^ 64
     → leb (c * c / 18014398509481984 * c + div_ceil (c * c % 18014398509481984 * c) 18014398509481984) (m * 2 ^ 53 % 2 ^ 128) ≡ leb (cube c) (m * 2 ^ 107)
 cube_test c m h =
     ap (λ (z : ℕ). leb (c * c / 18014398509481984 * c + div_ceil (c * c % 18014398509481984 * c) 18014398509481984) z) (held m h)
@@ -33,7 +33,7 @@ cube_test c m h =
     ∙ ap (λ (z : ℕ). leb z (m * 2 ^ 53 * 18014398509481984)) (parts c (c * c))
     ∙ ap (λ (z : ℕ). leb (cube c) z) (scale m)
   where
-    held : (m : ℕ) → m < 2 ^ 55 → m * 2 ^ 53 % 2 ^ 128 ≡ m * 2 ^ 53
+    held : (m : ℕ) → m < 2 ^ 64 → m * 2 ^ 53 % 2 ^ 128 ≡ m * 2 ^ 53
     held m h = omega arith
 
     scale : (m : ℕ) → m * 2 ^ 53 * 18014398509481984 ≡ m * 2 ^ 107

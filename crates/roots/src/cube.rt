@@ -13,7 +13,7 @@ const LOWER: u128 = 1 << 54;
 
 // Whether c ^ 3 is at most m * 2 ^ 107.
 fn cube_at_most(c: u64, m: u64) -> bool
-    requires { (c < 2 ^ 55) × (m < 2 ^ 55) }
+    requires { c < 2 ^ 55 }
     ensures { result ≡ leb (cube c) (m * 2 ^ 107) }
 {
     let c = u128::from(c);

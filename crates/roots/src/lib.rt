@@ -37,7 +37,6 @@ fn root_by_digits(m: u64) -> u64
 
 // The same from an estimate: q, the estimate's last 52 binary digits below a leading one, where it is wrong by one at most.
 fn corrected_root(m: u64, estimate: u64) -> Option<u64>
-    requires { m < 2 ^ 54 }
     ensures { MatchOption result Unit (λ q. Nearest square (m * 2 ^ 52) q) }
 {
     let q = estimate % LEADING + LEADING;

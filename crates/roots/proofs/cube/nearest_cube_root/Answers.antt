@@ -88,7 +88,7 @@ pub overflow_sub-mid-in-loop-high : goal.overflow_sub-mid-in-loop-high
 overflow_sub-mid-in-loop-high c = let i = c.loop-high.invariant in omega (arith, i.least)
 
 pub cube_at_most-requires : goal.cube_at_most-requires
-cube_at_most-requires c = let i = c.loop-high.invariant in (omega (arith, i.less, i.most), c.requires.1)
+cube_at_most-requires c = let i = c.loop-high.invariant in omega (arith, i.less, i.most)
 
 pub loop-high-smaller-then-cube_at_most : goal.loop-high-smaller-then-cube_at_most
 loop-high-smaller-then-cube_at_most c = omega (arith, c.loop-high-test.true)
