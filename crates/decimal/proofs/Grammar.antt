@@ -11,13 +11,13 @@ use lib.ListN.{length, get_or, take, drop, drop_of_length-le, length-drop, lengt
 use lib.Seq.{get_or-append-add, drop-drop, take_all, take_at, drop_at, get_or_at, length-take-le}
 use lib.Ieee.{nan, inf, binary64, round}
 use borrow.Author.Tests.{eq-eqb, ne_eqb, eqb-true, eqb-false, le-leb, lt-leb, leb-true}
+use Rattle.std.proofs.Common.{Ok, Err}
 use Rattle.laws.proofs.Tests.{and_true}
 use Rattle.laws.proofs.Lists.{here}
 use Rattle.text.specs.Text.{bytes}
-use Rattle.decimal.specs.Read.{is_digit, digit_run, with_digits, lower, spells, name, sized, exponent_at, exponent, ended, unsigned, number}
+use Rattle.decimal.specs.Read.{Number, is_digit, digit_run, with_digits, lower, spells, name, sized, exponent_at, exponent, ended, unsigned, number}
 use Rattle.decimal.specs.Grammar.{Digits, no_digit, digit, Sign, no_sign, plus, minus, Mantissa, whole, point_last, point_first, Exp, no_exp, exp, numeral_value, limited, Body, is_inf, is_infinity, is_nan_lem, is_number, Written, written}
-use Rattle.decimal.specs.declared.read.Number.{Number}
-use Rattle.decimal.specs.declared.read.Number.TheVariants.{Nothing, Value, Refused}
+use Rattle.decimal.specs.declared.read.NumberError.TheVariants.{NotANumber, TooLong}
 use Rattle.decimal.proofs.Scan.{present, spells_length}
 
 -- ---- runs of digits
@@ -75,13 +75,13 @@ sized_limited s l w p en x n ds es f g h k =
     let d : with_digits (with_digits 0 w l) p (drop (w + 1) l) ≡ numeral_value 0 ds =
     value_numeral (with_digits 0 w l) p (drop (w + 1) l) ∙ ap (λ (a : ℕ). numeral_value a (take p (drop (w + 1) l))) (value_numeral 0 w l) ∙ numeral_join 0 (take w l) (take p (drop (w + 1) l)) ∙ ap (numeral_value 0) f in
     let e : with_digits 0 n (drop x l) ≡ numeral_value 0 es = value_numeral 0 n (drop x l) ∙ ap (numeral_value 0) h in
-    (λ i. cond (ltb 19 (g i)) Refused (cond (ltb 2 (k i)) Refused (cond (ltb 30 (e i)) Refused (Value (round binary64 s (d i * 10 ^ cond en 0 (e i)) (10 ^ (p + cond en (e i) 0)))))))
+    (λ i. cond (ltb 19 (g i)) (Err TooLong) (cond (ltb 2 (k i)) (Err TooLong) (cond (ltb 30 (e i)) (Err TooLong) (Ok (round binary64 s (d i * 10 ^ cond en 0 (e i)) (10 ^ (p + cond en (e i) 0)))))))
 
 -- ---- from the scanner to the grammar
 
 -- a text is no number, or what P says of it
 pub data Said (P : Number → Type 0) : Number → Type 0 where
-  nothing : Said P Nothing
+  nothing : Said P (Err NotANumber)
   this : {v : Number} → P v → Said P v
 
 -- the scanner's places w and p in l hold the digits ds of the mantissa m
@@ -96,7 +96,7 @@ module _ (s : Bool) (l : List ℕ) (w p : ℕ) (m ds : List ℕ) (f : Found l w 
   unfolding exponent_at
   exponent_at_said en x e sg le S L X = go (eqb (digit_run (drop x l)) 0) refl (eqb (x + digit_run (drop x l)) (length l)) refl
     where
-      go : (a : Bool) → eqb (digit_run (drop x l)) 0 ≡ a → (b : Bool) → eqb (x + digit_run (drop x l)) (length l) ≡ b → Said (Body s l) (cond a Nothing (cond b (sized s l w p en x (digit_run (drop x l))) Nothing))
+      go : (a : Bool) → eqb (digit_run (drop x l)) 0 ≡ a → (b : Bool) → eqb (x + digit_run (drop x l)) (length l) ≡ b → Said (Body s l) (cond a (Err NotANumber) (cond b (sized s l w p en x (digit_run (drop x l))) (Err NotANumber)))
       go true q b r = nothing
       go false q false r = nothing
       go false q true r =
@@ -137,10 +137,10 @@ module _ (s : Bool) (l : List ℕ) (w p : ℕ) (m ds : List ℕ) (f : Found l w 
       (go (eqb i (length l)) refl (eqb (get_or l i 0) 101) refl (eqb (get_or l i 0) 69) refl)
     where
       rest : Number
-      rest = cond (eqb i (length l)) (sized s l w p false i 0) (cond (eqb (get_or l i 0) 101) (exponent s l w p i) (cond (eqb (get_or l i 0) 69) (exponent s l w p i) Nothing))
+      rest = cond (eqb i (length l)) (sized s l w p false i 0) (cond (eqb (get_or l i 0) 101) (exponent s l w p i) (cond (eqb (get_or l i 0) 69) (exponent s l w p i) (Err NotANumber)))
 
       go : (a : Bool) → eqb i (length l) ≡ a → (b : Bool) → eqb (get_or l i 0) 101 ≡ b → (d : Bool) → eqb (get_or l i 0) 69 ≡ d
-          → Said (Body s l) (cond a (sized s l w p false i 0) (cond b (exponent s l w p i) (cond d (exponent s l w p i) Nothing)))
+          → Said (Body s l) (cond a (sized s l w p false i 0) (cond b (exponent s l w p i) (cond d (exponent s l w p i) (Err NotANumber))))
       go true q b r d t =
           let z : i ≡ length l = eqb-true i (length l) q in
           let h : length l ≤ i = omega arith in
@@ -155,7 +155,7 @@ unfolding name
 name_said s l = go (spells l (bytes "inf")) refl (spells l (bytes "infinity")) refl (spells l (bytes "nan")) refl
   where
     go : (a : Bool) → spells l (bytes "inf") ≡ a → (b : Bool) → spells l (bytes "infinity") ≡ b → (c : Bool) → spells l (bytes "nan") ≡ c
-        → Said (Body s l) (cond a (Value (inf s)) (cond b (Value (inf s)) (cond c (Value nan) Nothing)))
+        → Said (Body s l) (cond a (Ok (inf s)) (cond b (Ok (inf s)) (cond c (Ok nan) (Err NotANumber))))
     go true p b q c r = this (is_inf l p)
     go false p true q c r = this (is_infinity l q)
     go false p false q true r = this (is_nan_lem l r)
@@ -311,7 +311,7 @@ module _ (s : Bool) (l : List ℕ) (w p : ℕ) (m ds : List ℕ) (f : Found l w 
   exponent_at_takes en x es e D h k =
       let n : digit_run (drop x l) ≡ length es = ap digit_run (e ∙ sym (append-nil es)) ∙ digits_run [] D at_end in
       let t : take (length es) (drop x l) ≡ es = ap (take (length es)) e ∙ take_all (length es) es (omega arith) in
-      (λ i. cond (eqb (n i) 0) Nothing (cond (eqb (x + n i) (length l)) (sized s l w p en x (n i)) Nothing))
+      (λ i. cond (eqb (n i) 0) (Err NotANumber) (cond (eqb (x + n i) (length l)) (sized s l w p en x (n i)) (Err NotANumber)))
       ∙ simp (ne_eqb (length es) 0 (λ (z : length es ≡ 0). omega arith), eq-eqb (x + length es) (length l) k)
       (sized_limited s l w p en x (length es) ds es f.digits f.count t refl)
 
@@ -348,7 +348,7 @@ module _ (s : Bool) (l : List ℕ) (w p : ℕ) (m ds : List ℕ) (f : Found l w 
       (go (eqb (get_or l i 0) 101) refl (is_e e le) a (exponent_takes i e es M S L D h))
     where
       go : (b : Bool) → eqb (get_or l i 0) 101 ≡ b → (e ≡ 101) ⊎ (e ≡ 69) → get_or l i 0 ≡ e → exponent s l w p i ≡ limited s ds p en es
-          → cond b (exponent s l w p i) (cond (eqb (get_or l i 0) 69) (exponent s l w p i) Nothing) ≡ limited s ds p en es
+          → cond b (exponent s l w p i) (cond (eqb (get_or l i 0) 69) (exponent s l w p i) (Err NotANumber)) ≡ limited s ds p en es
       go true r o a t = t
       go false r (inl o) a t = absurd (eqb-false (get_or l i 0) 101 r (a ∙ o))
       go false r (inr o) a t = simp (eq-eqb (get_or l i 0) 69 (a ∙ o)) t

@@ -5,13 +5,12 @@
 --     Sign   ::= [+-]
 --     Digit  ::= [0-9]
 -- A type for each line, a constructor for each alternative. proofs/Grammar.antt shows that `number` takes these texts and no others.
-use Rattle.std.specs.Prelude.{ℕ, ◌+◌, ◌-◌, ◌*◌, ◌^◌, ◌<◌, ◌≡◌, Bool, true, false, cond, List, [], ◌∷◌, ◌++◌, ltb, length}
+use Rattle.std.specs.Prelude.{ℕ, ◌+◌, ◌-◌, ◌*◌, ◌^◌, ◌<◌, ◌≡◌, Bool, true, false, cond, List, [], ◌∷◌, ◌++◌, ltb, length, Ok, Err}
 use Rattle.std.specs.Float.{nan, inf, binary64}
 use Rattle.std.specs.Float.Ieee.{round}
 use Rattle.text.specs.Text.{bytes, code}
-use Rattle.decimal.specs.Read.{is_digit, lower, spells}
-use Rattle.decimal.specs.declared.read.Number.{Number}
-use Rattle.decimal.specs.declared.read.Number.TheVariants.{Value, Refused}
+use Rattle.decimal.specs.Read.{Number, is_digit, lower, spells}
+use Rattle.decimal.specs.declared.read.NumberError.TheVariants.{TooLong}
 
 -- Digit*
 pub data Digits : List ℕ → Type 0 where
@@ -45,15 +44,15 @@ unfoldable pub limited : Bool → List ℕ → ℕ → Bool → List ℕ → Num
 limited n ds p en es =
     let d = numeral_value 0 ds in
     let e = numeral_value 0 es in
-    cond (ltb 19 (length ds)) Refused
-    (cond (ltb 2 (length es)) Refused
-    (cond (ltb 30 e) Refused (Value (round binary64 n (d * 10 ^ cond en 0 e) (10 ^ (p + cond en e 0))))))
+    cond (ltb 19 (length ds)) (Err TooLong)
+    (cond (ltb 2 (length es)) (Err TooLong)
+    (cond (ltb 30 e) (Err TooLong) (Ok (round binary64 n (d * 10 ^ cond en 0 e) (10 ^ (p + cond en e 0))))))
 
 -- 'inf' | 'infinity' | 'nan' | Number, behind a sign
 pub data Body (n : Bool) : List ℕ → Number → Type 0 where
-  is_inf : (w : List ℕ) → spells w (bytes "inf") ≡ true → Body n w (Value (inf n))
-  is_infinity : (w : List ℕ) → spells w (bytes "infinity") ≡ true → Body n w (Value (inf n))
-  is_nan_lem : (w : List ℕ) → spells w (bytes "nan") ≡ true → Body n w (Value nan)
+  is_inf : (w : List ℕ) → spells w (bytes "inf") ≡ true → Body n w (Ok (inf n))
+  is_infinity : (w : List ℕ) → spells w (bytes "infinity") ≡ true → Body n w (Ok (inf n))
+  is_nan_lem : (w : List ℕ) → spells w (bytes "nan") ≡ true → Body n w (Ok nan)
   is_number : {m : List ℕ} {ds : List ℕ} {p : ℕ} {x : List ℕ} {en : Bool} {es : List ℕ} → Mantissa m ds p → Exp x en es → Body n (m ++ x) (limited n ds p en es)
 
 -- Float, and what it comes to

@@ -1,65 +1,54 @@
 -- `decimal::read::append` meets its contract: what is left to be written after r makes the whole. Assumes nothing.
-use mathlib.Core.Path.{◌≡◌, sym, ap, ◌∙◌, subst}
-use Prim.Native.Nat.{ℕ, ◌+◌, ◌-◌, ◌*◌, ◌^◌, ◌≤◌, ◌<◌}
-use native.Mathlib.Nat.{add-zero, sub-zero}
-use native.Mathlib.Omega.{arith}
-use lib.ListN.{get_or, drop}
+use Rattle.std.proofs.Common.{◌≡◌, ◌+◌, ◌*◌, ◌-◌, ◌^◌, ◌≤◌, ◌<◌, get_or, take, drop, ℕ, sym, ap, ◌∙◌, subst, arith}
 use Rattle.decimal.specs.Read.{with_digits}
-use Rattle.decimal.proofs.Scan.{run_from, value_next, digit_room, ten_fits}
-use Rattle.decimal.proofs.read.append.Goals.{In-loop-i}
+use Rattle.decimal.proofs.Scan.{run_from, value_after, digit_room, ten_fits, part_long, part_byte}
+use Rattle.decimal.proofs.read.append.Goals.{In-loop-c}
 use Rattle.decimal.proofs.read.append.Goals as goal
 
--- the byte is a digit
-digit : (c : In-loop-i) → (48 ≤ get_or c.args.l.now (c.args.at + c.loop-i.i) 0) × (get_or c.args.l.now (c.args.at + c.loop-i.i) 0 ≤ 57)
-digit c = run_from c.args.l.now c.args.at c.loop-i.i (omega (arith, c.requires.1))
+-- the byte, and what it says
+abbrev byte : In-loop-c → ℕ
+byte c = get_or c.args.l.now (c.args.at + c.loop-c.c-index) 0
 
-next : (c : In-loop-i) → c.loop-i.r * 10 + (get_or c.args.l.now (c.args.at + c.loop-i.i) 0 - 48) < 10 ^ (c.args.k + (c.loop-i.i + 1))
-next c = digit_room c.loop-i.r (get_or c.args.l.now (c.args.at + c.loop-i.i) 0) c.args.k c.loop-i.i c.loop-i.invariant.2 (digit c).1
+inside : (c : In-loop-c) → c.loop-c.c-index < c.args.n
+inside c = let e = part_long c.args.l.now c.args.at c.args.n c.requires.0 in omega (arith, c.loop-c-test.true)
 
-fits : (c : In-loop-i) → c.loop-i.r * 10 + (get_or c.args.l.now (c.args.at + c.loop-i.i) 0 - 48) < 2 ^ 64
-fits c = ten_fits _ (c.args.k + (c.loop-i.i + 1)) (next c) (omega (arith, c.requires.3))
+digit : (c : In-loop-c) → (48 ≤ byte c) × (byte c ≤ 57)
+digit c = run_from c.args.l.now c.args.at c.loop-c.c-index (let h = inside c in omega (arith, c.requires.1))
 
-pub loop-i-init : goal.loop-i-init
-loop-i-init c = (omega arith, rw (sub-zero, add-zero), rw add-zero c.requires.2)
+next : (c : In-loop-c) → c.loop-c.r * 10 + (byte c - 48) < 10 ^ (c.args.k + (c.loop-c.c-index + 1))
+next c = digit_room c.loop-c.r (byte c) c.args.k c.loop-c.c-index c.loop-c.invariant.room (digit c).1
+
+fits : (c : In-loop-c) → c.loop-c.r * 10 + (byte c - 48) < 2 ^ 64
+fits c = ten_fits _ (c.args.k + (c.loop-c.c-index + 1)) (next c) (let h = inside c in omega (arith, c.requires.3))
+
+is : (c : In-loop-c) → get_or (take (c.args.at + c.args.n - c.args.at) (drop c.args.at c.args.l.now)) c.loop-c.c-index 0 ≡ byte c
+is c = part_byte c.args.l.now c.args.at c.args.n c.requires.0 c.loop-c.c-index (inside c)
 
 pub overflow_mul-r : goal.overflow_mul-r
-overflow_mul-r c = omega (arith, fits (goal.at.overflow_mul-r c).In-loop-i)
+overflow_mul-r c = let h = fits c in omega arith
+
+pub overflow_sub-c : goal.overflow_sub-c
+overflow_sub-c c = rw (is (goal.at.overflow_sub-c c).In-loop-c) (digit (goal.at.overflow_sub-c c).In-loop-c).0
 
 pub overflow_add-r : goal.overflow_add-r
-overflow_add-r c = omega (arith, c.well_formed.0.0)
+overflow_add-r c = let x = (goal.at.overflow_add-r c).In-loop-c in record { fits = rw (c.from.ensures, is x) (fits x) }
 
-pub bounds-l-at : goal.bounds-l-at
-bounds-l-at c = omega arith
-
-pub overflow_sub-r : goal.overflow_sub-r
-overflow_sub-r c = (digit (goal.at.overflow_sub-r c).In-loop-i).0
-
-pub overflow_cast-r : goal.overflow_cast-r
-overflow_cast-r c = omega (arith, (digit (goal.at.overflow_cast-r c).In-loop-i).1)
-
-pub overflow_add-r-in-loop-i : goal.overflow_add-r-in-loop-i
-overflow_add-r-in-loop-i c = record { fits = fits (goal.at.overflow_add-r-in-loop-i c).In-loop-i }
-
-pub overflow_add-i : goal.overflow_add-i
-overflow_add-i c = omega arith
-
-pub loop-i-smaller : goal.loop-i-smaller
-loop-i-smaller c = omega arith
-
-pub loop-i-preserved : goal.loop-i-preserved
-loop-i-preserved c =
-    let l = c.loop-i in
-    let a = c.args in
-    let e = value_next a.l.now (a.at + l.i) (omega arith) l.r (a.n - l.i) (omega arith) in
-    let p : a.at + l.i + 1 ≡ a.at + (l.i + 1) = omega arith in
-    let q : a.n - l.i - 1 ≡ a.n - (l.i + 1) = omega arith in
-    (omega arith, (λ j. with_digits (l.r * 10 + (get_or a.l.now (a.at + l.i) 0 - 48)) (sym q j) (drop (sym p j) a.l.now)) ∙ sym e ∙ l.invariant.1, next (goal.at.loop-i-preserved c).In-loop-i)
+pub loop-c-preserved : goal.loop-c-preserved
+loop-c-preserved c =
+    let x = (goal.at.loop-c-preserved c).In-loop-c in
+    let e : c.from.result ≡ byte x - 48 = rw (c.from.ensures, is x) in
+    let h = inside x in
+    rw e (record {
+      is = sym (value_after c.args.l.now c.args.at c.loop-c.c-index c.args.n c.loop-c.r (omega arith) h) ∙ c.loop-c.invariant.is;
+      room = next x;
+    })
 
 pub returns : goal.returns
 unfolding with_digits
 returns c =
-    let l = c.loop-i in
+    let l = c.loop-c in
     let a = c.args in
-    let i : l.i ≡ a.n = omega arith in
-    let z : 0 ≡ a.n - l.i = omega arith in
-    (ap (λ (k : ℕ). with_digits l.r k (drop (a.at + l.i) a.l.now)) z ∙ l.invariant.1, subst (λ (k : ℕ). l.r < 10 ^ (a.k + k)) i l.invariant.2)
+    let e = part_long a.l.now a.at a.n c.requires.0 in
+    let i : l.c-index ≡ a.n = omega (arith, c.loop-c-test.false, l.auto.c-index-end) in
+    let z : 0 ≡ a.n - l.c-index = omega arith in
+    (ap (λ (k : ℕ). with_digits l.r k (drop (a.at + l.c-index) a.l.now)) z ∙ l.invariant.is, subst (λ (k : ℕ). l.r < 10 ^ (a.k + k)) i l.invariant.room)

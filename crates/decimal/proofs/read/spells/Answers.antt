@@ -1,44 +1,17 @@
--- `decimal::read::spells` meets its contract: the words are as alike as what is left of them. Assumes nothing.
-use mathlib.Core.Path.{◌≡◌, refl, sym, ◌∙◌}
-use native.Mathlib.Omega.{arith}
-use lib.ListN.{get_or}
-use borrow.Author.Tests.{eq-eqb, ne_eqb}
+-- `decimal::read::spells` meets its contract: words of one length are compared as the definition does. Assumes nothing.
+use Rattle.std.proofs.Common.{ℕ, eqb, sym, ◌∙◌, rules, tests}
+use Rattle.std.proofs.lemmas.Iterator.{YieldsList-from_slice, YieldsList-from_zip}
+use Rattle.std.proofs.lemmas.Iterator.Search.{all_from_yields_List}
+use borrow.Author.Tests.{ne_eqb}
 use Rattle.decimal.specs.Read.{lower}
-use Rattle.decimal.proofs.Scan.{spells_next, spells_end, spells_length}
+use Rattle.decimal.proofs.Scan.{spells_is, spells_length}
 use Rattle.decimal.proofs.read.spells.Goals as goal
 
 pub returns-then-l-w : goal.returns-then-l-w
-returns-then-l-w c = sym (spells_length _ _ c.if-l-w.true)
+returns-then-l-w c =
+    all_from_yields_List (λ (p : ℕ × ℕ). eqb (lower p.0) p.1) c.all.new.self _ _ c.all.ensures.ran
+    (YieldsList-from_zip (YieldsList-from_slice c.args.l.now cc) (YieldsList-from_slice c.args.w.now cc)) (λ x b q k. search (rules, tests))
+    ∙ sym (spells_is c.args.l.now c.args.w.now (search (rules, tests)))
 
-pub loop-i-init : goal.loop-i-init
-loop-i-init c = (omega arith, refl)
-
-pub bounds-l-i : goal.bounds-l-i
-bounds-l-i c = omega arith
-
-pub bounds-w-i : goal.bounds-w-i
-bounds-w-i c = omega arith
-
-pub returns-then-small-w : goal.returns-then-small-w
-returns-then-small-w c =
-    let l = c.loop-i in
-    let a = c.args in
-    sym (sym l.invariant.1 ∙ spells_next a.l.now l.i (omega arith) a.w.now (omega arith) ∙ simp (ne_eqb _ _ (λ (e : lower (get_or a.l.now l.i 0) ≡ get_or a.w.now l.i 0). c.if-small-w.true (c.small.ensures ∙ e))))
-
-pub overflow_add-i : goal.overflow_add-i
-overflow_add-i c = omega arith
-
-pub loop-i-smaller : goal.loop-i-smaller
-loop-i-smaller c = omega arith
-
-pub loop-i-preserved : goal.loop-i-preserved
-loop-i-preserved c =
-    let l = c.loop-i in
-    let a = c.args in
-    (omega arith, sym (spells_next a.l.now l.i (omega arith) a.w.now (omega arith) ∙ simp (eq-eqb _ _ (sym c.small.ensures ∙ c.if-small-w.false))) ∙ l.invariant.1)
-
-pub returns : goal.returns
-returns c =
-    let l = c.loop-i in
-    let a = c.args in
-    sym (sym l.invariant.1 ∙ spells_end a.l.now a.w.now l.i (omega arith) (omega arith))
+pub returns-else-l-w : goal.returns-else-l-w
+returns-else-l-w c = rw (ne_eqb _ _ c.if-l-w.false) (sym (spells_length _ _ c.if-l-w.false))
