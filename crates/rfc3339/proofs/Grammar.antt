@@ -5,6 +5,7 @@ use mathlib.Core.List.{List, [], ◌∷◌, ◌++◌}
 use Prim.Native.Nat.{ℕ, suc, ◌+◌, ◌-◌, ◌*◌, ◌^◌, ◌≤◌, ◌<◌}
 use native.Mathlib.Nat.{add-zero, sub-zero, mul-one}
 use native.Mathlib.Omega.{arith}
+use Rattle.std.proofs.Common.{Option, Some, None}
 use lib.Dec.{leb, ltb, eqb}
 use lib.ListN.{length, get_or, take, drop, length-drop, length-append, take-append-drop}
 use lib.Seq.{drop-cons, drop-drop, get_or-drop, take_all, take-take, take_at, drop_at, length-take-le}
@@ -13,15 +14,14 @@ use Rattle.decimal.specs.Read.{digit_run, with_digits, lower}
 use Rattle.decimal.specs.Grammar.{numeral_value}
 use Rattle.decimal.proofs.Grammar.{run_most, run_digits, Stops, letter, letter_stops, at_other, digits_run, value_numeral}
 use Rattle.decimal.proofs.Scan.{present}
-use Rattle.rfc3339.specs.Rfc3339.{place_fits, matches, layout, hour_minute, two_digits, valid_date, valid_time, nanos, numoffset, time_offset, time_secfrac, seconds, date_time, date_time_of}
+use Rattle.rfc3339.specs.Rfc3339.{stamp, place_fits, matches, layout, hour_minute, two_digits, valid_date, valid_time, nanos, numoffset, time_offset, time_secfrac, seconds, date_time, date_time_of}
 use Rattle.rfc3339.specs.Grammar.{pair, full_date, Secfrac, no_secfrac, secfrac, partial_time, Offset, zulu, ahead, behind, DateTime, date_and_time}
 use Rattle.rfc3339.specs.declared.Timestamp.{Timestamp}
-use Rattle.rfc3339.specs.declared.Timestamp.TheVariants.{Nothing, At}
 
 -- a text is no time, or what P says of it
-pub data Said (P : Timestamp → Type 0) : Timestamp → Type 0 where
-  nothing : Said P Nothing
-  this : {v : Timestamp} → P v → Said P v
+pub data Said (P : Timestamp → Type 0) : Option Timestamp → Type 0 where
+  nothing : Said P None
+  this : {v : Timestamp} → P v → Said P (Some v)
 
 abbrev two : ℕ → ℕ → ℕ
 two a b = (a - 48) * 10 + (b - 48)
@@ -78,30 +78,30 @@ module _ (l : List ℕ) (z : ℕ) (h : z ≤ length l) where
       let c = at_shift 0 z (add-zero z) in
       (λ i. cond (matches hour_minute (sym (drop-drop 1 z l) i))
       (cond (valid_time (a i) (b i) 0)
-      (cond (eqb (c i) 43) (At (s - (a i * 3600 + b i * 60)) n) (cond (eqb (c i) 45) (At (s + (a i * 3600 + b i * 60)) n) Nothing)) Nothing) Nothing)
+      (cond (eqb (c i) 43) (Some (stamp (s - (a i * 3600 + b i * 60)) n)) (cond (eqb (c i) 45) (Some (stamp (s + (a i * 3600 + b i * 60)) n)) None)) None) None)
 
   offset_shift : (s n : ℕ) → time_offset l z s n ≡ time_offset (drop z l) 0 s n
   unfolding time_offset
   offset_shift s n =
-      (λ i. cond (long_shift 1 i) (cond (eqb (lower (at_shift 0 z (add-zero z) i)) 122) (At s n) Nothing) (cond (long_shift 6 i) (numoffset_shift s n i) Nothing))
+      (λ i. cond (long_shift 1 i) (cond (eqb (lower (at_shift 0 z (add-zero z) i)) 122) (Some (stamp s n)) None) (cond (long_shift 6 i) (numoffset_shift s n i) None))
 
 -- what an offset makes of local seconds s
 data Utc (s n : ℕ) : List ℕ → Timestamp → Type 0 where
-  utc : {o : List ℕ} {a b : ℕ} → Offset o a b → Utc s n o (At (s + b - a) n)
+  utc : {o : List ℕ} {a b : ℕ} → Offset o a b → Utc s n o (stamp (s + b - a) n)
 
 module _ (s n : ℕ) where
-  straight : (o : List ℕ) → Offset o 0 0 → Utc s n o (At s n)
-  straight o f = subst (λ (x : ℕ). Utc s n o (At x n)) (ap (λ (x : ℕ). x - 0) (add-zero s) ∙ sub-zero s) (utc f)
+  straight : (o : List ℕ) → Offset o 0 0 → Utc s n o (stamp s n)
+  straight o f = subst (λ (x : ℕ). Utc s n o (stamp x n)) (ap (λ (x : ℕ). x - 0) (add-zero s) ∙ sub-zero s) (utc f)
 
-  east : (o : List ℕ) (a : ℕ) → Offset o a 0 → Utc s n o (At (s - a) n)
-  east o a f = subst (λ (x : ℕ). Utc s n o (At x n)) (ap (λ (x : ℕ). x - a) (add-zero s)) (utc f)
+  east : (o : List ℕ) (a : ℕ) → Offset o a 0 → Utc s n o (stamp (s - a) n)
+  east o a f = subst (λ (x : ℕ). Utc s n o (stamp x n)) (ap (λ (x : ℕ). x - a) (add-zero s)) (utc f)
 
-  west : (o : List ℕ) (b : ℕ) → Offset o 0 b → Utc s n o (At (s + b) n)
-  west o b f = subst (λ (x : ℕ). Utc s n o (At x n)) (sub-zero (s + b)) (utc f)
+  west : (o : List ℕ) (b : ℕ) → Offset o 0 b → Utc s n o (stamp (s + b) n)
+  west o b f = subst (λ (x : ℕ). Utc s n o (stamp x n)) (sub-zero (s + b)) (utc f)
 
   -- a sign and hh:mm
   signed_said : (c : ℕ) {t : List ℕ} → Fits hour_minute t → length t ≡ 5
-      → Said (Utc s n (c ∷ t)) (cond (valid_time (two_digits t 0) (two_digits t 3) 0) (cond (eqb c 43) (At (s - (two_digits t 0 * 3600 + two_digits t 3 * 60)) n) (cond (eqb c 45) (At (s + (two_digits t 0 * 3600 + two_digits t 3 * 60)) n) Nothing)) Nothing)
+      → Said (Utc s n (c ∷ t)) (cond (valid_time (two_digits t 0) (two_digits t 3) 0) (cond (eqb c 43) (Some (stamp (s - (two_digits t 0 * 3600 + two_digits t 3 * 60)) n)) (cond (eqb c 45) (Some (stamp (s + (two_digits t 0 * 3600 + two_digits t 3 * 60)) n)) None)) None)
   unfolding place_fits
   signed_said c (fits_more fa (fits_more fb (fits_more fx (fits_more fd (fits_more fe (fits_end {l = y ∷ r})))))) h = absurd (omega arith)
   signed_said c (fits_more {c = a} fa (fits_more {c = b} fb (fits_more {c = x} fx (fits_more {c = d} fd (fits_more {c = e} fe (fits_end {l = []})))))) h =
@@ -112,12 +112,12 @@ module _ (s n : ℕ) where
 
       go : (v : Bool) → valid_time (two a b) (two d e) 0 ≡ v → (p : Bool) → eqb c 43 ≡ p → (q : Bool) → eqb c 45 ≡ q
           → Said (Utc s n (c ∷ a ∷ b ∷ x ∷ d ∷ e ∷ []))
-          (cond v (cond p (At (s - (two a b * 3600 + two d e * 60)) n) (cond q (At (s + (two a b * 3600 + two d e * 60)) n) Nothing)) Nothing)
+          (cond v (cond p (Some (stamp (s - (two a b * 3600 + two d e * 60)) n)) (cond q (Some (stamp (s + (two a b * 3600 + two d e * 60)) n)) None)) None)
       go false v p g q f = nothing
       go true v true g q f =
-          this (subst (λ (o : List ℕ). Utc s n o (At (s - (two a b * 3600 + two d e * 60)) n)) (text 43 (eqb-true c 43 g)) (east _ _ (ahead (pair a b fa fb) (pair d e fd fe) v)))
+          this (subst (λ (o : List ℕ). Utc s n o (stamp (s - (two a b * 3600 + two d e * 60)) n)) (text 43 (eqb-true c 43 g)) (east _ _ (ahead (pair a b fa fb) (pair d e fd fe) v)))
       go true v false g true f =
-          this (subst (λ (o : List ℕ). Utc s n o (At (s + (two a b * 3600 + two d e * 60)) n)) (text 45 (eqb-true c 45 f)) (west _ _ (behind (pair a b fa fb) (pair d e fd fe) v)))
+          this (subst (λ (o : List ℕ). Utc s n o (stamp (s + (two a b * 3600 + two d e * 60)) n)) (text 45 (eqb-true c 45 f)) (west _ _ (behind (pair a b fa fb) (pair d e fd fe) v)))
       go true v false g false f = nothing
 
   numoffset_said : (c : ℕ) (t : List ℕ) → length t ≡ 5 → Said (Utc s n (c ∷ t)) (numoffset (c ∷ t) 0 s n)
@@ -125,7 +125,7 @@ module _ (s n : ℕ) where
   numoffset_said c t h = go (matches hour_minute t) refl
     where
       go : (m : Bool) → matches hour_minute t ≡ m
-          → Said (Utc s n (c ∷ t)) (cond m (cond (valid_time (two_digits t 0) (two_digits t 3) 0) (cond (eqb c 43) (At (s - (two_digits t 0 * 3600 + two_digits t 3 * 60)) n) (cond (eqb c 45) (At (s + (two_digits t 0 * 3600 + two_digits t 3 * 60)) n) Nothing)) Nothing) Nothing)
+          → Said (Utc s n (c ∷ t)) (cond m (cond (valid_time (two_digits t 0) (two_digits t 3) 0) (cond (eqb c 43) (Some (stamp (s - (two_digits t 0 * 3600 + two_digits t 3 * 60)) n)) (cond (eqb c 45) (Some (stamp (s + (two_digits t 0 * 3600 + two_digits t 3 * 60)) n)) None)) None) None)
       go true e = signed_said c (matched hour_minute t e) h
       go false e = nothing
 
@@ -134,20 +134,20 @@ module _ (s n : ℕ) where
   offset_said [] = nothing
   offset_said (c ∷ []) = go (eqb (lower c) 122) refl
     where
-      go : (b : Bool) → eqb (lower c) 122 ≡ b → Said (Utc s n (c ∷ [])) (cond b (At s n) Nothing)
+      go : (b : Bool) → eqb (lower c) 122 ≡ b → Said (Utc s n (c ∷ [])) (cond b (Some (stamp s n)) None)
       go true e = this (straight (c ∷ []) (zulu c (eqb-true (lower c) 122 e)))
       go false e = nothing
   offset_said (c ∷ d ∷ o) = rw (ne_eqb (suc (suc (length o))) 1 (λ (e : suc (suc (length o)) ≡ 1). omega arith)) (go (eqb (suc (suc (length o))) 6) refl)
     where
-      go : (b : Bool) → eqb (suc (suc (length o))) 6 ≡ b → Said (Utc s n (c ∷ d ∷ o)) (cond b (numoffset (c ∷ d ∷ o) 0 s n) Nothing)
+      go : (b : Bool) → eqb (suc (suc (length o))) 6 ≡ b → Said (Utc s n (c ∷ d ∷ o)) (cond b (numoffset (c ∷ d ∷ o) 0 s n) None)
       go true e = let z = eqb-true (suc (suc (length o))) 6 e in numoffset_said c (d ∷ o) (omega arith)
       go false e = nothing
 
-  offset_takes : {o : List ℕ} {a b : ℕ} → Offset o a b → time_offset o 0 s n ≡ At (s + b - a) n
+  offset_takes : {o : List ℕ} {a b : ℕ} → Offset o a b → time_offset o 0 s n ≡ Some (stamp (s + b - a) n)
   unfolding time_offset numoffset matches place_fits
-  offset_takes (zulu z e) = simp (eq-eqb (lower z) 122 e) (ap (λ (x : ℕ). At x n) (sym (ap (λ (x : ℕ). x - 0) (add-zero s) ∙ sub-zero s)))
-  offset_takes (ahead (pair a b fa fb) (pair d e fd fe) v) = simp (fa, fb, fd, fe, v) (ap (λ (x : ℕ). At (x - (two a b * 3600 + two d e * 60)) n) (sym (add-zero s)))
-  offset_takes (behind (pair a b fa fb) (pair d e fd fe) v) = simp (fa, fb, fd, fe, v) (ap (λ (x : ℕ). At x n) (sym (sub-zero (s + (two a b * 3600 + two d e * 60)))))
+  offset_takes (zulu z e) = simp (eq-eqb (lower z) 122 e) (ap (λ (x : ℕ). Some (stamp x n)) (sym (ap (λ (x : ℕ). x - 0) (add-zero s) ∙ sub-zero s)))
+  offset_takes (ahead (pair a b fa fb) (pair d e fd fe) v) = simp (fa, fb, fd, fe, v) (ap (λ (x : ℕ). Some (stamp (x - (two a b * 3600 + two d e * 60)) n)) (sym (add-zero s)))
+  offset_takes (behind (pair a b fa fb) (pair d e fd fe) v) = simp (fa, fb, fd, fe, v) (ap (λ (x : ℕ). Some (stamp x n)) (sym (sub-zero (s + (two a b * 3600 + two d e * 60)))))
 
 -- ---- the fraction
 
@@ -168,9 +168,9 @@ nanos_are l q ds n e f g = go (ltb n 9) refl
 
 -- what stands behind the seconds
 data Rest (s : ℕ) : List ℕ → Timestamp → Type 0 where
-  rest : {f o : List ℕ} {n a b : ℕ} → Secfrac f n → Offset o a b → Rest s (f ++ o) (At (s + b - a) n)
+  rest : {f o : List ℕ} {n a b : ℕ} → Secfrac f n → Offset o a b → Rest s (f ++ o) (stamp (s + b - a) n)
 
-with_frac : {s n : ℕ} {f o : List ℕ} {v : Timestamp} → Secfrac f n → Said (Utc s n o) v → Said (Rest s (f ++ o)) v
+with_frac : {s n : ℕ} {f o : List ℕ} {v : Option Timestamp} → Secfrac f n → Said (Utc s n o) v → Said (Rest s (f ++ o)) v
 with_frac F nothing = nothing
 with_frac F (this (utc o)) = this (rest F o)
 
@@ -189,7 +189,7 @@ module _ (l : List ℕ) (s : ℕ) (h : 19 ≤ length l) where
       found e = present l 19 46 e (omega arith)
 
       go : (b : Bool) → eqb (get_or l 19 0) 46 ≡ b → (d : Bool) → eqb (digit_run (drop 20 l)) 0 ≡ d
-          → Said (Rest s (drop 19 l)) (cond b (cond d Nothing (time_offset l (20 + digit_run (drop 20 l)) s (nanos l (digit_run (drop 20 l))))) (time_offset l 19 s 0))
+          → Said (Rest s (drop 19 l)) (cond b (cond d None (time_offset l (20 + digit_run (drop 20 l)) s (nanos l (digit_run (drop 20 l))))) (time_offset l 19 s 0))
       go false e d g = subst (Said (Rest s (drop 19 l))) (sym (offset_shift l 19 h s 0)) (with_frac no_secfrac (offset_said s 0 (drop 19 l)))
       go true e true g = nothing
       go true e false g =
@@ -219,7 +219,7 @@ offset_no_point (zulu z e) k = let g = letter z 122 e (omega arith) in omega ari
 offset_no_point (ahead h m v) k = omega arith
 offset_no_point (behind h m v) k = omega arith
 
-secfrac_takes : (l : List ℕ) (s : ℕ) {f o : List ℕ} {n a b : ℕ} → 19 ≤ length l → drop 19 l ≡ f ++ o → Secfrac f n → Offset o a b → time_secfrac l s ≡ At (s + b - a) n
+secfrac_takes : (l : List ℕ) (s : ℕ) {f o : List ℕ} {n a b : ℕ} → 19 ≤ length l → drop 19 l ≡ f ++ o → Secfrac f n → Offset o a b → time_secfrac l s ≡ Some (stamp (s + b - a) n)
 unfolding time_secfrac
 secfrac_takes l s {o = o} h e no_secfrac O =
     simp (ne_eqb (get_or l 19 0) 46 (λ (z : get_or l 19 0 ≡ 46). offset_no_point O (sym (at_shift l 19 h 0 19 refl ∙ ap (λ (x : List ℕ). get_or x 0 0) e) ∙ z)))
@@ -233,7 +233,7 @@ secfrac_takes l s {o = o} h e (secfrac ds D k) O =
     let t : take (length ds) (drop 20 l) ≡ ds = ap (take (length ds)) q ∙ take_at ds o (length ds) refl in
     let u : drop (20 + length ds) l ≡ o = sym (drop-drop (length ds) 20 l) ∙ ap (drop (length ds)) q ∙ drop_at ds o (length ds) refl in
     let c : get_or l 19 0 ≡ 46 = at_shift l 19 h 0 19 refl ∙ ap (λ (x : List ℕ). get_or x 0 0) e in
-    (λ i. cond (eqb (c i) 46) (cond (eqb (n i) 0) Nothing (time_offset l (20 + n i) s (nanos l (n i)))) (time_offset l 19 s 0))
+    (λ i. cond (eqb (c i) 46) (cond (eqb (n i) 0) None (time_offset l (20 + n i) s (nanos l (n i)))) (time_offset l 19 s 0))
     ∙ simp (ne_eqb (length ds) 0 (λ (z : length ds ≡ 0). omega arith))
     (offset_shift l (20 + length ds) (omega arith) s (nanos l (length ds))
     ∙ (λ z. time_offset (u z) 0 s (nanos_are l (drop 20 l) ds (length ds) refl t refl z))
@@ -257,16 +257,16 @@ date_said (fits_more {c = y1} fy1 (fits_more {c = y2} fy2 (fits_more {c = y3} fy
 
     made : {r : List ℕ} {v : Timestamp} → valid_date (two y1 y2 * 100 + two y3 y4) (two m1 m2) (two d1 d2) ≡ true → valid_time (two h1 h2) (two i1 i2) (two s1 s2) ≡ true → Rest (seconds (two y1 y2 * 100 + two y3 y4) (two m1 m2) (two d1 d2) (two h1 h2) (two i1 i2) (two s1 s2)) r v → DateTime (y1 ∷ y2 ∷ y3 ∷ y4 ∷ x1 ∷ m1 ∷ m2 ∷ x2 ∷ d1 ∷ d2 ∷ t ∷ h1 ∷ h2 ∷ x3 ∷ i1 ∷ i2 ∷ x4 ∷ s1 ∷ s2 ∷ r) v
     made p q (rest {f = f} {o = o} {n = n} {a = a} {b = b} F O) =
-        subst (λ (x : List ℕ). DateTime x (At (seconds (two y1 y2 * 100 + two y3 y4) (two m1 m2) (two d1 d2) (two h1 h2) (two i1 i2) (two s1 s2) + b - a) n)) (text (f ++ o))
+        subst (λ (x : List ℕ). DateTime x (stamp (seconds (two y1 y2 * 100 + two y3 y4) (two m1 m2) (two d1 d2) (two h1 h2) (two i1 i2) (two s1 s2) + b - a) n)) (text (f ++ o))
         (date_and_time t (full_date (pair y1 y2 fy1 fy2) (pair y3 y4 fy3 fy4) (pair m1 m2 fm1 fm2) (pair d1 d2 fd1 fd2) p) (eqb-true (lower t) 116 ft)
         (partial_time (pair h1 h2 fh1 fh2) (pair i1 i2 fi1 fi2) (pair s1 s2 fs1 fs2) q F) O)
 
-    both : {v : Timestamp} → valid_date (two y1 y2 * 100 + two y3 y4) (two m1 m2) (two d1 d2) ≡ true → valid_time (two h1 h2) (two i1 i2) (two s1 s2) ≡ true → Said (Rest (seconds (two y1 y2 * 100 + two y3 y4) (two m1 m2) (two d1 d2) (two h1 h2) (two i1 i2) (two s1 s2)) r) v → Said (DateTime (y1 ∷ y2 ∷ y3 ∷ y4 ∷ x1 ∷ m1 ∷ m2 ∷ x2 ∷ d1 ∷ d2 ∷ t ∷ h1 ∷ h2 ∷ x3 ∷ i1 ∷ i2 ∷ x4 ∷ s1 ∷ s2 ∷ r)) v
+    both : {v : Option Timestamp} → valid_date (two y1 y2 * 100 + two y3 y4) (two m1 m2) (two d1 d2) ≡ true → valid_time (two h1 h2) (two i1 i2) (two s1 s2) ≡ true → Said (Rest (seconds (two y1 y2 * 100 + two y3 y4) (two m1 m2) (two d1 d2) (two h1 h2) (two i1 i2) (two s1 s2)) r) v → Said (DateTime (y1 ∷ y2 ∷ y3 ∷ y4 ∷ x1 ∷ m1 ∷ m2 ∷ x2 ∷ d1 ∷ d2 ∷ t ∷ h1 ∷ h2 ∷ x3 ∷ i1 ∷ i2 ∷ x4 ∷ s1 ∷ s2 ∷ r)) v
     both p q nothing = nothing
     both p q (this b) = this (made p q b)
 
     go : (a : Bool) → valid_date (two y1 y2 * 100 + two y3 y4) (two m1 m2) (two d1 d2) ≡ a → (b : Bool) → valid_time (two h1 h2) (two i1 i2) (two s1 s2) ≡ b
-        → Said (DateTime (y1 ∷ y2 ∷ y3 ∷ y4 ∷ x1 ∷ m1 ∷ m2 ∷ x2 ∷ d1 ∷ d2 ∷ t ∷ h1 ∷ h2 ∷ x3 ∷ i1 ∷ i2 ∷ x4 ∷ s1 ∷ s2 ∷ r)) (cond a (cond b (time_secfrac (y1 ∷ y2 ∷ y3 ∷ y4 ∷ x1 ∷ m1 ∷ m2 ∷ x2 ∷ d1 ∷ d2 ∷ t ∷ h1 ∷ h2 ∷ x3 ∷ i1 ∷ i2 ∷ x4 ∷ s1 ∷ s2 ∷ r) (seconds (two y1 y2 * 100 + two y3 y4) (two m1 m2) (two d1 d2) (two h1 h2) (two i1 i2) (two s1 s2))) Nothing) Nothing)
+        → Said (DateTime (y1 ∷ y2 ∷ y3 ∷ y4 ∷ x1 ∷ m1 ∷ m2 ∷ x2 ∷ d1 ∷ d2 ∷ t ∷ h1 ∷ h2 ∷ x3 ∷ i1 ∷ i2 ∷ x4 ∷ s1 ∷ s2 ∷ r)) (cond a (cond b (time_secfrac (y1 ∷ y2 ∷ y3 ∷ y4 ∷ x1 ∷ m1 ∷ m2 ∷ x2 ∷ d1 ∷ d2 ∷ t ∷ h1 ∷ h2 ∷ x3 ∷ i1 ∷ i2 ∷ x4 ∷ s1 ∷ s2 ∷ r) (seconds (two y1 y2 * 100 + two y3 y4) (two m1 m2) (two d1 d2) (two h1 h2) (two i1 i2) (two s1 s2))) None) None)
     go true p true q = both p q (secfrac_said (y1 ∷ y2 ∷ y3 ∷ y4 ∷ x1 ∷ m1 ∷ m2 ∷ x2 ∷ d1 ∷ d2 ∷ t ∷ h1 ∷ h2 ∷ x3 ∷ i1 ∷ i2 ∷ x4 ∷ s1 ∷ s2 ∷ r) (seconds (two y1 y2 * 100 + two y3 y4) (two m1 m2) (two d1 d2) (two h1 h2) (two i1 i2) (two s1 s2)) (omega arith))
     go true p false q = nothing
     go false p b q = nothing
@@ -277,12 +277,12 @@ unfolding date_time_of
 only_grammar l = go (matches layout l) refl
   where
     go : (b : Bool) → matches layout l ≡ b
-        → Said (DateTime l) (cond b (date_time l (two_digits l 0 * 100 + two_digits l 2) (two_digits l 5) (two_digits l 8) (two_digits l 11) (two_digits l 14) (two_digits l 17)) Nothing)
+        → Said (DateTime l) (cond b (date_time l (two_digits l 0 * 100 + two_digits l 2) (two_digits l 5) (two_digits l 8) (two_digits l 11) (two_digits l 14) (two_digits l 17)) None)
     go true e = date_said (matched layout l e)
     go false e = nothing
 
 -- The scanner takes every text of the grammar for its moment.
-pub all_grammar : {l : List ℕ} {v : Timestamp} → DateTime l v → date_time_of l ≡ v
+pub all_grammar : {l : List ℕ} {v : Timestamp} → DateTime l v → date_time_of l ≡ Some v
 unfolding date_time_of date_time matches place_fits
 all_grammar (date_and_time {o = o} t (full_date (pair y1 y2 fy1 fy2) (pair y3 y4 fy3 fy4) (pair m1 m2 fm1 fm2) (pair d1 d2 fd1 fd2) p) e (partial_time {f = f} (pair h1 h2 fh1 fh2) (pair i1 i2 fi1 fi2) (pair s1 s2 fs1 fs2) q F) O) =
     simp (fy1, fy2, fy3, fy4, fm1, fm2, fd1, fd2, eq-eqb (lower t) 116 e, fh1, fh2, fi1, fi2, fs1, fs2, p, q)

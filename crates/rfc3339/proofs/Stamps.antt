@@ -1,33 +1,48 @@
 -- Patterns and fractions. Assumes nothing.
 use mathlib.Core.Path.{◌≡◌, refl, sym, ap, ◌∙◌, subst}
 use mathlib.Core.Bool.{Bool, true, false, ◌&&◌, cond}
-use mathlib.Core.List.{List}
-use Prim.Native.Nat.{ℕ, ◌+◌, ◌-◌, ◌*◌, ◌^◌, ◌≤◌, ◌<◌}
-use native.Mathlib.Nat.{mul-lt-mul_of_pos_right, one-le-pow}
+use mathlib.Core.List.{List, [], ◌∷◌}
+use Prim.Native.Nat.{ℕ, ◌+◌, ◌-◌, ◌*◌, ◌^◌, ◌≤◌, ◌<◌, min}
+use native.Mathlib.Nat.{mul-one, mul-lt-mul_of_pos_right, one-le-pow}
 use native.Mathlib.Omega.{arith}
 use lib.Dec.{lit<, leb, ltb, eqb}
-use lib.ListN.{length, get_or, drop, drop_of_length-le}
+use lib.ListN.{length, drop}
 use lib.Pow.{pow-add}
-use Rattle.laws.proofs.Lists.{here}
-use Rattle.rfc3339.specs.Rfc3339.{place_fits, matches, valid_time, valid_date}
+use Rattle.std.specs.List.{list_all, zip}
+use Rattle.decimal.specs.Read.{with_digits}
+use Rattle.rfc3339.specs.Rfc3339.{place_fits, matches, nanos, valid_time, valid_date}
 use Rattle.moment.specs.Calendar.{leap, month_length}
 use Rattle.moment.proofs.Lengths.{month_most}
-use borrow.Author.Tests.{ltb-false, leb-true, eqb-false}
+use borrow.Author.Tests.{ltb-true, ltb-false, leb-true, eqb-false}
 
-pub matches_next : (p l : List ℕ) (i : ℕ) → i < length p → i < length l → matches (drop i p) (drop i l) ≡ (place_fits (get_or p i 0) (get_or l i 0) && matches (drop (i + 1) p) (drop (i + 1) l))
+-- a pattern and a text of its length or more, byte by byte
+pub matches_is : (p l : List ℕ) → length p ≤ length l → matches p l ≡ list_all (λ (q : ℕ × ℕ). place_fits q.0 q.1) (zip p l)
 unfolding matches
-matches_next p l i h g = (λ j. matches (here p i h j) (here l i g j))
+matches_is [] l h = refl
+matches_is (p ∷ ps) [] h = absurd (omega arith)
+matches_is (p ∷ ps) (c ∷ l) h = ap (λ (r : Bool). place_fits p c && r) (matches_is ps l (omega arith))
 
-pub matches_short : (p l : List ℕ) (i : ℕ) → i < length p → length l ≤ i → matches (drop i p) (drop i l) ≡ false
+pub matches_short : (p l : List ℕ) → length l < length p → matches p l ≡ false
 unfolding matches
-matches_short p l i h g = (λ j. matches (here p i h j) (drop_of_length-le l g j))
+matches_short [] l h = absurd (omega arith)
+matches_short (p ∷ ps) [] h = refl
+matches_short (p ∷ ps) (c ∷ l) h = ap (λ (r : Bool). place_fits p c && r) (matches_short ps l (omega arith)) ∙ and_false (place_fits p c)
+  where
+    and_false : (b : Bool) → (b && false) ≡ false
+    and_false true = refl
+    and_false false = refl
 
-pub matches_end : (p l : List ℕ) (i : ℕ) → length p ≤ i → matches (drop i p) (drop i l) ≡ true
-unfolding matches
-matches_end p l i h = ap (λ (q : List ℕ). matches q (drop i l)) (drop_of_length-le p h)
+-- with at most nine digits and as many zeros as are missing
+pub nanos_kept : (l : List ℕ) (n : ℕ) → nanos l n ≡ with_digits 0 (min n 9) (drop 20 l) * 10 ^ (9 - min n 9)
+unfolding nanos
+nanos_kept l n = go (ltb n 9) refl
+  where
+    go : (b : Bool) → ltb n 9 ≡ b → cond b (with_digits 0 n (drop 20 l) * 10 ^ (9 - n)) (with_digits 0 9 (drop 20 l)) ≡ with_digits 0 (min n 9) (drop 20 l) * 10 ^ (9 - min n 9)
+    go true h = let k = ltb-true n 9 h in let e : n ≡ min n 9 = omega arith in ap (λ (m : ℕ). with_digits 0 m (drop 20 l) * 10 ^ (9 - m)) e
+    go false h = let k = ltb-false n 9 h in let e : 9 ≡ min n 9 = omega arith in sym (mul-one (with_digits 0 9 (drop 20 l))) ∙ ap (λ (m : ℕ). with_digits 0 m (drop 20 l) * 10 ^ (9 - m)) e
 
 -- n digits and 9 - n zeros are a number of nine digits
-pub billionths : {r n w : ℕ} → r < 10 ^ (0 + n) → w ≡ 10 ^ (9 - n) → n < 9 → r * w < 1000000000
+pub billionths : {r n w : ℕ} → r < 10 ^ (0 + n) → w ≡ 10 ^ (9 - n) → n ≤ 9 → r * w < 1000000000
 billionths {r = r} {n = n} {w = w} a e h = go
   where
     k : n + (9 - n) ≡ 9

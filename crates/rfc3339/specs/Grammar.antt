@@ -10,9 +10,8 @@ use Rattle.std.specs.Prelude.{ℕ, ◌+◌, ◌-◌, ◌*◌, ◌^◌, ◌<◌, 
 use Rattle.text.specs.Text.{code}
 use Rattle.decimal.specs.Read.{is_digit, lower}
 use Rattle.decimal.specs.Grammar.{Digits, numeral_value}
-use Rattle.rfc3339.specs.Rfc3339.{valid_date, valid_time, seconds}
+use Rattle.rfc3339.specs.Rfc3339.{stamp, valid_date, valid_time, seconds}
 use Rattle.rfc3339.specs.declared.Timestamp.{Timestamp}
-use Rattle.rfc3339.specs.declared.Timestamp.TheVariants.{At}
 
 -- 2DIGIT, and its number
 pub data Pair : List ℕ → ℕ → Type 0 where
@@ -42,4 +41,4 @@ pub data Offset : List ℕ → ℕ → ℕ → Type 0 where
 -- date-time, and its moment in UTC
 pub data DateTime : List ℕ → Timestamp → Type 0 where
   date_and_time : {d p o : List ℕ} {y mo da h mi s n a b : ℕ} (t : ℕ) → FullDate d y mo da → lower t ≡ code "t" → PartialTime p h mi s n → Offset o a b
-      → DateTime (d ++ t ∷ (p ++ o)) (At (seconds y mo da h mi s + b - a) n)
+      → DateTime (d ++ t ∷ (p ++ o)) (stamp (seconds y mo da h mi s + b - a) n)

@@ -5,54 +5,51 @@ ghost use Rattle.std.specs.Prelude.{◌≡◌, ◌+◌, ◌-◌, ◌*◌, ◌≤
 ghost use Rattle.decimal.specs.Read.{digit_run};
 ghost use Rattle.rfc3339.specs.Rfc3339 as Rfc;
 
-use decimal::{fixed, read};
+use decimal::read;
 use moment::calendar;
 
-// Seconds from a day before the year 0000 in UTC, and nanoseconds.
+// Seconds from a day before the year 0000, and nanoseconds.
+#[derive(Clone, Copy, PartialEq, Eq, Debug)]
+pub struct Timestamp {
+    pub seconds: u64,
+    pub nanos: u64,
+}
+
+// A day and a time of day as they are written, which the calendar or the clock may lack.
 #[derive(Clone, Copy)]
-pub enum Timestamp {
-    Nothing,
-    At(u64, u64),
+struct Written {
+    year: u64,
+    month: u64,
+    day: u64,
+    hour: u64,
+    minute: u64,
+    second: u64,
 }
 
 // The byte c stands where a pattern has p.
+#[tactic(auto, unfolding(crate::specs::Rfc3339::place_fits))]
 fn fits(p: u8, c: u8) -> bool
     ensures { result ≡ Rfc.place_fits p c }
 {
     if p == b'0' {
-        if c < 48 {
-            return false;
-        }
-        return c <= 57;
+        c.is_ascii_digit()
+    } else {
+        c.to_ascii_lowercase() == p
     }
-    read::small(c) == p
 }
 
 // l starts as the pattern says.
 fn matches(p: &[u8], l: &[u8]) -> bool
     ensures { result ≡ Rfc.matches p.now l.now }
 {
-    let mut i = 0;
-    while i < p.len() {
-        if l.len() <= i {
-            return false;
-        }
-        if !fits(p[i], l[i]) {
-            return false;
-        }
-        i += 1;
-    }
-    true
+    p.len() <= l.len() && p.iter().zip(l).all(|(q, c)| fits(*q, *c))
 }
 
 // A digit's value.
 fn digit(c: u8) -> u64
     ensures { Rfc.Digit c result }
 {
-    if c < 48 {
-        return 0;
-    }
-    (c - 48) as u64
+    u64::from(c.saturating_sub(b'0'))
 }
 
 // The two digits at a place.
@@ -66,32 +63,19 @@ fn two_digits(l: &[u8], i: usize) -> u64
 }
 
 // A day that the calendar has.
+#[tactic(auto, unfolding(crate::specs::Rfc3339::valid_date))]
 fn valid_date(y: u64, m: u64, d: u64) -> bool
     ensures { result ≡ Rfc.valid_date y m d }
 {
-    if m == 0 {
-        return false;
-    }
-    if 12 < m {
-        return false;
-    }
-    if d == 0 {
-        return false;
-    }
-    d <= calendar::month_length(calendar::leap_year(y), m)
+    (1..=12).contains(&m) && (1..=calendar::month_length(calendar::leap_year(y), m)).contains(&d)
 }
 
 // A time that a day has.
+#[tactic(auto, unfolding(crate::specs::Rfc3339::valid_time))]
 fn valid_time(h: u64, m: u64, s: u64) -> bool
     ensures { result ≡ Rfc.valid_time h m s }
 {
-    if 23 < h {
-        return false;
-    }
-    if 59 < m {
-        return false;
-    }
-    s <= 59
+    h <= 23 && m <= 59 && s <= 59
 }
 
 // The first nine of the n digits at 20, as billionths.
@@ -99,106 +83,111 @@ fn nanos(l: &[u8], n: usize) -> u64
     requires { Rfc.Fraction l.now n }
     ensures { Rfc.Nanos l.now n result }
 {
-    if n < 9 {
-        return read::append(l, 20, n, 0, 0) * fixed::power(9 - n);
-    }
-    read::append(l, 20, 9, 0, 0)
+    let kept = n.min(9);
+    read::append(l, 20, kept, 0, 0) * 10u64.pow((9 - kept) as u32)
 }
 
 // Local time becomes UTC: an offset stands at z, of a sign, hours and minutes.
-fn numoffset(l: &[u8], z: usize, s: u64, n: u64) -> Timestamp
-    requires { Rfc.OffsetRoom s × (length l.now ≡ z + 6) }
-    ensures { result ≡ Rfc.numoffset l.now z s n }
+#[tactic(auto, unfolding(crate::specs::Rfc3339::numoffset))]
+fn numoffset(l: &[u8], z: usize, local: Timestamp) -> Option<Timestamp>
+    requires { Rfc.OffsetRoom local.seconds × (length l.now ≡ z + 6) }
+    ensures { result ≡ Rfc.numoffset l.now z local.seconds local.nanos }
 {
     if !matches(b"00:00", &l[z + 1..]) {
-        return Timestamp::Nothing;
+        return None;
     }
     let h = two_digits(l, z + 1);
     let m = two_digits(l, z + 4);
     if !valid_time(h, m, 0) {
-        return Timestamp::Nothing;
+        return None;
     }
-    let c = read::byte(l, z);
-    if c == b'+' {
-        return Timestamp::At(s - (h * 3600 + m * 60), n);
-    }
-    if c == b'-' {
-        return Timestamp::At(s + (h * 3600 + m * 60), n);
-    }
-    Timestamp::Nothing
+    let offset = h * 3600 + m * 60;
+    let seconds = match read::byte(l, z) {
+        b'+' => local.seconds - offset,
+        b'-' => local.seconds + offset,
+        _ => return None,
+    };
+    Some(Timestamp {
+        seconds,
+        nanos: local.nanos,
+    })
 }
 
 // At z stands Z or an offset, and nothing after.
-fn time_offset(l: &[u8], z: usize, s: u64, n: u64) -> Timestamp
-    requires { Rfc.OffsetRoom s × (z < 9223372036854775808) }
-    ensures { result ≡ Rfc.time_offset l.now z s n }
+#[tactic(auto, unfolding(crate::specs::Rfc3339::time_offset))]
+fn time_offset(l: &[u8], z: usize, local: Timestamp) -> Option<Timestamp>
+    requires { Rfc.OffsetRoom local.seconds × (z < 9223372036854775808) }
+    ensures { result ≡ Rfc.time_offset l.now z local.seconds local.nanos }
 {
-    if l.len() == z + 1 {
-        if read::small(read::byte(l, z)) == b'z' {
-            return Timestamp::At(s, n);
-        }
-        return Timestamp::Nothing;
+    if l.len() == z + 1 && read::byte(l, z).to_ascii_lowercase() == b'z' {
+        return Some(local);
     }
     if l.len() == z + 6 {
-        return numoffset(l, z, s, n);
+        return numoffset(l, z, local);
     }
-    Timestamp::Nothing
+    None
 }
 
 // Behind the seconds a point and digits may stand.
-fn time_secfrac(l: &[u8], s: u64) -> Timestamp
-    requires { Rfc.OffsetRoom s }
-    ensures { result ≡ Rfc.time_secfrac l.now s }
+#[tactic(auto, unfolding(crate::specs::Rfc3339::time_secfrac))]
+fn time_secfrac(l: &[u8], seconds: u64) -> Option<Timestamp>
+    requires { Rfc.OffsetRoom seconds }
+    ensures { result ≡ Rfc.time_secfrac l.now seconds }
 {
-    if read::byte(l, 19) == b'.' {
-        let n = read::digits(l, 20);
-        if n == 0 {
-            return Timestamp::Nothing;
-        }
-        return time_offset(l, 20 + n, s, nanos(l, n));
+    if read::byte(l, 19) != b'.' {
+        return time_offset(l, 19, Timestamp { seconds, nanos: 0 });
     }
-    time_offset(l, 19, s, 0)
+    let n = read::digits(l, 20);
+    if n == 0 {
+        return None;
+    }
+    time_offset(
+        l,
+        20 + n,
+        Timestamp {
+            seconds,
+            nanos: nanos(l, n),
+        },
+    )
 }
 
 // Seconds of local time, from a day before the year 0000.
-fn seconds(y: u64, m: u64, d: u64, h: u64, mi: u64, s: u64) -> u64
-    requires { Rfc.Clock y m d h mi s }
-    ensures { Rfc.Seconds y m d h mi s result }
+fn seconds(t: Written) -> u64
+    requires { Rfc.Clock t.year t.month t.day t.hour t.minute t.second }
+    ensures { Rfc.Seconds t.year t.month t.day t.hour t.minute t.second result }
 {
-    let days = calendar::days_to_year(y)
-        + calendar::months_length(calendar::leap_year(y), m - 1)
-        + d;
-    days * 86400 + h * 3600 + mi * 60 + s
+    let days = calendar::days_to_year(t.year)
+        + calendar::months_length(calendar::leap_year(t.year), t.month - 1)
+        + t.day;
+    days * 86400 + t.hour * 3600 + t.minute * 60 + t.second
 }
 
-fn date_time(l: &[u8], y: u64, m: u64, d: u64, h: u64, mi: u64, s: u64) -> Timestamp
-    requires { y < 1000000 }
-    ensures { result ≡ Rfc.date_time l.now y m d h mi s }
+#[tactic(auto, unfolding(crate::specs::Rfc3339::date_time))]
+fn date_time(l: &[u8], t: Written) -> Option<Timestamp>
+    requires { t.year < 1000000 }
+    ensures { result ≡ Rfc.date_time l.now t.year t.month t.day t.hour t.minute t.second }
 {
-    if !valid_date(y, m, d) {
-        return Timestamp::Nothing;
+    if !valid_date(t.year, t.month, t.day) || !valid_time(t.hour, t.minute, t.second) {
+        return None;
     }
-    if !valid_time(h, mi, s) {
-        return Timestamp::Nothing;
-    }
-    time_secfrac(l, seconds(y, m, d, h, mi, s))
+    time_secfrac(l, seconds(t))
 }
 
-// The moment that the bytes write.
-pub fn parse_from_rfc3339(l: &[u8]) -> Timestamp
+// The moment in UTC that the bytes write.
+#[tactic(auto, unfolding(crate::specs::Rfc3339::date_time_of))]
+pub fn parse_from_rfc3339(l: &[u8]) -> Option<Timestamp>
     ensures { result ≡ Rfc.date_time_of l.now }
 {
     if !matches(b"0000-00-00t00:00:00", l) {
-        return Timestamp::Nothing;
+        return None;
     }
-    let y = two_digits(l, 0) * 100 + two_digits(l, 2);
-    date_time(
-        l,
-        y,
-        two_digits(l, 5),
-        two_digits(l, 8),
-        two_digits(l, 11),
-        two_digits(l, 14),
-        two_digits(l, 17),
-    )
+    let t = Written {
+        year: two_digits(l, 0) * 100 + two_digits(l, 2),
+        month: two_digits(l, 5),
+        day: two_digits(l, 8),
+        hour: two_digits(l, 11),
+        minute: two_digits(l, 14),
+        second: two_digits(l, 17),
+    };
+    date_time(l, t)
 }
