@@ -6,6 +6,8 @@ use mathlib.Core.Option.{Option, none, some}
 use Prim.Native.Nat.{ℕ, zero, suc, ◌+◌, ◌-◌, ◌≤◌}
 use native.Mathlib.Nat.{sub-zero, zero-add}
 use native.Mathlib.Omega.{arith}
+use Rattle.std.proofs.Common.{Result, Ok, Err, Some, None}
+use Rattle.std.proofs.Common.{Option as Answer}
 use lib.Dec.{ltb, eqb}
 use lib.IntN.{ℤ}
 use lib.Ieee.{Float}
@@ -13,19 +15,18 @@ use lib.ListN.{length, take, drop, length-drop}
 use lib.Seq.{take-nil, take-take, drop-drop, length-take-le, take_all}
 use borrow.Author.Tests.{ne_eqb, eqb-false, le-ltb}
 use Rattle.text.specs.Text.{bytes}
-use Rattle.decimal.specs.Read.{spells, number}
-use Rattle.decimal.specs.declared.read.Number.{Number}
-use Rattle.decimal.specs.declared.read.Number.TheVariants as Num
+use Rattle.decimal.specs.Read.{Number, spells, number}
+use Rattle.decimal.specs.declared.read.NumberError.TheVariants.{NotANumber, TooLong}
 use Rattle.rfc3339.specs.Rfc3339.{date_time_of}
 use Rattle.rfc3339.specs.declared.Timestamp.{Timestamp}
-use Rattle.rfc3339.specs.declared.Timestamp.TheVariants as Time
 use Rattle.passes.specs.Text.{Placed, push, starts_lf, lines, blank, blanks, keep_trimmed, trim_end, trim, until, ascii}
-use Rattle.refusal.specs.Numbers as refusal
-use Rattle.passes.specs.Line.{inside, since1970, sample_of, pair_of, fields, sample, center_line, named, header, trimmed_line, line_of}
+use Rattle.passes.specs.Line.{part, inside, since1970, sample_of, pair_of, fields, sample, center_line, named, header, trimmed_line, line_of}
 use Rattle.passes.specs.File.{opening, zeros, advance, after, scanned, pass_file_refusal, answer, name_of, Reads}
 use Rattle.passes.specs.Called.{value_of, headed, called_in, later, last_called, part_of}
 use Rattle.passes.specs.declared.line.Line.{Line}
-use Rattle.passes.specs.declared.line.Line.TheVariants.{Skipped, Refusal, Name, Center, Sample}
+use Rattle.passes.specs.declared.line.Line.TheVariants.{Skipped, Name, Center, Sample}
+use Rattle.refusal.specs.declared.Refusal.{Refusal}
+use Rattle.refusal.specs.declared.Refusal.TheVariants.{NonAscii, LongLine, NumberSize, MomentRange}
 use Rattle.passes.specs.declared.file.PassFile.{PassFile}
 use Rattle.passes.proofs.Names.{blanks_most, end_most, until_most}
 
@@ -94,35 +95,35 @@ part_all l = record { inside = omega arith; is = take_all (length l) l (omega ar
 
 -- ---- what a line says of the name
 
-abbrev Tells : List ℕ → Line → Option (List ℕ) → Type 0
-Tells l Skipped n = n ≡ none
-Tells l (Refusal k) n = n ≡ none
-Tells l (Name s e) n = (v : List ℕ) × (n ≡ some v) × Part l s v × (e ≡ s + length v)
-Tells l (Center f) n = n ≡ none
-Tells l (Sample t f) n = n ≡ none
+abbrev Tells : List ℕ → Result Line Refusal → Option (List ℕ) → Type 0
+Tells l (Ok Skipped) n = n ≡ none
+Tells l (Err r) n = n ≡ none
+Tells l (Ok (Name p)) n = (v : List ℕ) × (n ≡ some v) × Part l p.start v × (p.end ≡ p.start + length v)
+Tells l (Ok (Center f)) n = n ≡ none
+Tells l (Ok (Sample t f)) n = n ≡ none
 
 module _ (l : List ℕ) where
-  pick : (b : Bool) (x y : Line) → Tells l x none → Tells l y none → Tells l (cond b x y) none
+  pick : (b : Bool) (x y : Result Line Refusal) → Tells l x none → Tells l y none → Tells l (cond b x y) none
   pick true x y p q = p
   pick false x y p q = q
 
-  sample_of_tells : (s k : ℕ) (v : Number) → Tells l (sample_of s k v) none
-  sample_of_tells s k Num.Nothing = refl
-  sample_of_tells s k (Num.Value f) = pick (inside s k) (Sample (since1970 s k) f) (Refusal refusal.moment_range) refl refl
-  sample_of_tells s k Num.Refused = pick (inside s k) (Refusal refusal.number_size) (Refusal refusal.moment_range) refl refl
+  sample_of_tells : (t : Timestamp) (v : Number) → Tells l (sample_of t v) none
+  sample_of_tells t (Err NotANumber) = refl
+  sample_of_tells t (Ok f) = pick (inside t.seconds t.nanos) (Ok (Sample (since1970 t.seconds t.nanos) f)) (Err MomentRange) refl refl
+  sample_of_tells t (Err TooLong) = pick (inside t.seconds t.nanos) (Err NumberSize) (Err MomentRange) refl refl
 
-  pair_tells : (t : Timestamp) (v : Number) → Tells l (pair_of t v) none
-  pair_tells Time.Nothing v = refl
-  pair_tells (Time.At s k) v = sample_of_tells s k v
+  pair_tells : (t : Answer Timestamp) (v : Number) → Tells l (pair_of t v) none
+  pair_tells None v = refl
+  pair_tells (Some t) v = sample_of_tells t v
 
   sample_tells : (t : List ℕ) → Tells l (sample t) none
   unfolding sample fields
-  sample_tells t = pick (eqb (until 44 t) (length t)) Skipped (fields (take (until 44 t) t) (drop (until 44 t + 1) t)) refl (pair_tells (date_time_of (take (until 44 t) t)) (number (take (until 44 (drop (until 44 t + 1) t)) (drop (until 44 t + 1) t))))
+  sample_tells t = pick (eqb (until 44 t) (length t)) (Ok Skipped) (fields (take (until 44 t) t) (drop (until 44 t + 1) t)) refl (pair_tells (date_time_of (take (until 44 t) t)) (number (take (until 44 (drop (until 44 t + 1) t)) (drop (until 44 t + 1) t))))
 
   center_tells : (v : Number) → Tells l (center_line v) none
-  center_tells Num.Nothing = refl
-  center_tells (Num.Value f) = refl
-  center_tells Num.Refused = refl
+  center_tells (Err NotANumber) = refl
+  center_tells (Ok f) = refl
+  center_tells (Err TooLong) = refl
 
   named_tells : (key : List ℕ) (s : ℕ) (v : List ℕ) → Part l s v
       → Tells l (named key s v) (cond (spells key (bytes "satellite_name")) (some (trim v)) none)
@@ -130,16 +131,16 @@ module _ (l : List ℕ) where
   named_tells key s v p = go (spells key (bytes "satellite_name"))
       (spells key (bytes "center_frequency"))
     where
-      go : (b d : Bool) → Tells l (cond b (Name (s + blanks v) (s + (blanks v + length (trim v)))) (cond d (center_line (number (trim v))) Skipped)) (cond b (some (trim v)) none)
+      go : (b d : Bool) → Tells l (cond b (Ok (Name (part (s + blanks v) (s + (blanks v + length (trim v)))))) (cond d (center_line (number (trim v))) (Ok Skipped))) (cond b (some (trim v)) none)
       go true d = (trim v, refl, part_trim p, omega arith)
-      go false d = pick d (center_line (number (trim v))) Skipped (center_tells (number (trim v))) refl
+      go false d = pick d (center_line (number (trim v))) (Ok Skipped) (center_tells (number (trim v))) refl
 
   header_tells : (s : ℕ) (h : List ℕ) → Part l s h → Tells l (header s h) (value_of h)
   unfolding header value_of
   header_tells s h p = go (eqb (until 58 h) (length h)) refl
     where
       go : (b : Bool) → eqb (until 58 h) (length h) ≡ b
-          → Tells l (cond b Skipped (named (trim (take (until 58 h) h)) (s + (until 58 h + 1)) (drop (until 58 h + 1) h)))
+          → Tells l (cond b (Ok Skipped) (named (trim (take (until 58 h) h)) (s + (until 58 h + 1)) (drop (until 58 h + 1) h)))
           (cond b none (cond (spells (trim (take (until 58 h) h)) (bytes "satellite_name")) (some (trim (drop (until 58 h + 1) h))) none))
       go true e = refl
       go false e = named_tells _ _ _ (part_drop (until 58 h + 1) (omega (arith, until_most 58 h, eqb-false (until 58 h) (length h) e)) p)
@@ -147,7 +148,7 @@ module _ (l : List ℕ) where
   text_tells : (s : ℕ) (t : List ℕ) → Part l s t → Tells l (trimmed_line s t) (headed t)
   unfolding trimmed_line headed
   text_tells s [] p = refl
-  text_tells s (c ∷ t) p = subst (λ (b : Bool). Tells l (cond b Skipped (cond (eqb c 35) (header (s + 1) t) (sample (c ∷ t)))) (cond (eqb c 35) (value_of t) none)) (sym (ne_eqb (suc (length t)) 0 (λ (e : suc (length t) ≡ 0). omega arith))) (go (eqb c 35))
+  text_tells s (c ∷ t) p = subst (λ (b : Bool). Tells l (cond b (Ok Skipped) (cond (eqb c 35) (header (s + 1) t) (sample (c ∷ t)))) (cond (eqb c 35) (value_of t) none)) (sym (ne_eqb (suc (length t)) 0 (λ (e : suc (length t) ≡ 0). omega arith))) (go (eqb c 35))
     where
       go : (b : Bool) → Tells l (cond b (header (s + 1) t) (sample (c ∷ t))) (cond b (value_of t) none)
       go true = header_tells (s + 1) t (part_drop 1 (omega arith) p)
@@ -155,9 +156,9 @@ module _ (l : List ℕ) where
 
   line_tells : Tells l (line_of l) (called_in l)
   unfolding line_of called_in
-  line_tells = go (not (ascii l)) (ltb 256 (length l)) refusal.non_ascii refusal.long_line
+  line_tells = go (not (ascii l)) (ltb 256 (length l)) NonAscii LongLine
     where
-      go : (a b : Bool) (j k : ℕ) → Tells l (cond a (Refusal j) (cond b (Refusal k) (trimmed_line (blanks l) (trim l)))) (cond a none (cond b none (headed (trim l))))
+      go : (a b : Bool) (j k : Refusal) → Tells l (cond a (Err j) (cond b (Err k) (trimmed_line (blanks l) (trim l)))) (cond a none (cond b none (headed (trim l))))
       go true b j k = refl
       go false true j k = refl
       go false false j k = text_tells (blanks l) (trim l) (subst (λ (s : ℕ). Part l s (trim l)) (zero-add (blanks l)) (part_trim (part_all l)))
@@ -235,19 +236,19 @@ placed file at (c ∷ l) f = go (eqb c 10) (eqb c 13) (starts_lf l) refl (placed
 -- ---- all lines
 
 module _ (file : List ℕ) where
-  tells_next : (p : PassFile) (at : ℕ) (b : List ℕ) (x : Line) (n m : Option (List ℕ)) → Part file at b → Tells b x n → part_of file p ≡ m → part_of file (advance p at x) ≡ later n m
+  tells_next : (p : PassFile) (at : ℕ) (b : List ℕ) (x : Result Line Refusal) (n m : Option (List ℕ)) → Part file at b → Tells b x n → part_of file p ≡ m → part_of file (advance p at x) ≡ later n m
   unfolding name_of
-  tells_next p at b Skipped n m q t h = subst (λ (k : Option (List ℕ)). part_of file p ≡ later k m) (sym t) h
-  tells_next p at b (Refusal k) n m q t h = subst (λ (k : Option (List ℕ)). part_of file p ≡ later k m) (sym t) h
-  tells_next p at b (Name s e) n m q t h =
+  tells_next p at b (Ok Skipped) n m q t h = subst (λ (k : Option (List ℕ)). part_of file p ≡ later k m) (sym t) h
+  tells_next p at b (Err r) n m q t h = subst (λ (k : Option (List ℕ)). part_of file p ≡ later k m) (sym t) h
+  tells_next p at b (Ok (Name o)) n m q t h =
       let v = t.0 in
       let w = part_join q t.2 in
       let i = w.inside in
       let f = t.3 in
-      let d : at + e - (at + s) ≡ length v = omega arith in
-      simp (le-ltb (length file) (at + e) (omega arith), le-ltb (at + e) (at + s) (omega arith), d, w.is, t.1)
-  tells_next p at b (Center f) n m q t h = subst (λ (k : Option (List ℕ)). part_of file p ≡ later k m) (sym t) h
-  tells_next p at b (Sample u f) n m q t h = subst (λ (k : Option (List ℕ)). part_of file p ≡ later k m) (sym t) h
+      let d : at + o.end - (at + o.start) ≡ length v = omega arith in
+      simp (le-ltb (length file) (at + o.end) (omega arith), le-ltb (at + o.end) (at + o.start) (omega arith), d, w.is, t.1)
+  tells_next p at b (Ok (Center f)) n m q t h = subst (λ (k : Option (List ℕ)). part_of file p ≡ later k m) (sym t) h
+  tells_next p at b (Ok (Sample u f)) n m q t h = subst (λ (k : Option (List ℕ)). part_of file p ≡ later k m) (sym t) h
 
   tells_all : (p : PassFile) (ls : List Placed) (m : Option (List ℕ)) → All file ls → part_of file p ≡ m → (after p ls).refusal ≡ 0 → part_of file (after p ls) ≡ last_called m ls
   unfolding after last_called

@@ -1,22 +1,25 @@
 -- The lines of a file one after the other: what is left to read and to store. Assumes nothing.
 use mathlib.Core.Path.{◌≡◌, refl, sym, ap, ◌∙◌, subst}
 use mathlib.Core.Bool.{Bool, true, false, cond}
-use mathlib.Core.List.{List, [], ◌∷◌}
-use Prim.Native.Nat.{ℕ, suc, ◌+◌, ◌-◌, ◌≤◌, ◌<◌}
-use native.Mathlib.Nat.{add-zero, sub-zero}
+use mathlib.Core.List.{List, [], ◌∷◌, ◌++◌}
+use Prim.Native.Nat.{ℕ, ◌+◌, ◌-◌, ◌≤◌, ◌<◌}
+use native.Mathlib.Nat.{add-zero}
 use native.Mathlib.Numerals.{add-one}
 use native.Mathlib.Omega.{arith}
+use Rattle.std.proofs.Common.{Result, Ok, Err}
 use lib.Dec.{eqb}
 use lib.IntN.{ℤ}
 use lib.Ieee.{Float}
-use lib.ListN.{length, take, drop, set, get_or, drop_of_length-le, length-drop, length-set}
-use lib.Seq.{sets, sets-eq, length-sets, drop-cons, drop-drop, length-take-le, take-append_seam}
+use lib.ListN.{length, take, drop, set, drop_of_length-le, length-drop}
+use lib.Seq.{sets, sets-eq, length-sets, drop-drop, length-take-le, take-append_seam}
 use borrow.Author.Tests.{eq-eqb, ne_eqb, eqb-false}
 use Rattle.passes.specs.Text.{Placed, lines, Cut}
 use Rattle.passes.specs.Line.{line_of}
 use Rattle.passes.specs.File.{opening, advance, after, time_before, freq_before, times_of, freqs_of, scanned, BeforeLine, Stepped, Stored, Scan}
 use Rattle.passes.specs.declared.line.Line.{Line}
-use Rattle.passes.specs.declared.line.Line.TheVariants.{Skipped, Refusal, Name, Center, Sample}
+use Rattle.passes.specs.declared.pieces.Span.{Span}
+use Rattle.passes.specs.declared.line.Line.TheVariants.{Skipped, Name, Center, Sample}
+use Rattle.refusal.specs.declared.Refusal.{Refusal}
 use Rattle.passes.specs.declared.file.PassFile.{PassFile}
 use Rattle.laws.proofs.Lists.{rest}
 use Rattle.passes.proofs.Names.{Within, line_in}
@@ -46,18 +49,18 @@ line_at file at n next h c =
     }
 
 -- ---- one line's step
-pub stepped : {file : List ℕ} {at n : ℕ} {s r : PassFile} {x y : Line} {times times' : List ℤ} {freqs freqs' : List Float} → x ≡ line_of (take (at + n - at) (drop at file))
+pub stepped : {file : List ℕ} {at n : ℕ} {s r : PassFile} {x y : Result Line Refusal} {times times' : List ℤ} {freqs freqs' : List Float} → x ≡ line_of (take (at + n - at) (drop at file))
     → Stored x s.count times times' freqs freqs' → x ≡ y → r ≡ advance s at y → r.count ≤ s.count + 1 → Stepped file at n s times times' freqs freqs' r
 stepped {file = file} {at = at} {n = n} {s = s} {times = times} {times' = times'} {freqs = freqs} {freqs' = freqs'} e d g h k =
     let f = e ∙ ap line_of (same_line file at n) in
-    record { is = h ∙ ap (advance s at) (sym g ∙ f); count = k; stored = subst (λ (z : Line). Stored z s.count times times' freqs freqs') f d }
+    record { is = h ∙ ap (advance s at) (sym g ∙ f); count = k; stored = subst (λ (z : Result Line Refusal). Stored z s.count times times' freqs freqs') f d }
 
 -- the places of a name that a line has
-pub name_in : (file : List ℕ) (at n : ℕ) {x : Line} {a b : ℕ} → at + n ≤ length file → x ≡ line_of (take (at + n - at) (drop at file)) → x ≡ Name a b → (at + a ≤ length file) × (at + b ≤ length file)
-name_in file at n {x} {a} {b} room e g =
+pub name_in : (file : List ℕ) (at n : ℕ) {x : Result Line Refusal} {y : Line} {p : Span} → at + n ≤ length file → x ≡ line_of (take (at + n - at) (drop at file)) → x ≡ Ok y → y ≡ Name p → (at + p.start ≤ length file) × (at + p.end ≤ length file)
+name_in file at n {x} {y} {p} room e g o =
     let l = take (at + n - at) (drop at file) in
-    let w : Within (length l) (Name a b) = subst (Within (length l)) (sym e ∙ g) (line_in l) in
-    let o = w.order in
+    let w : Within (length l) (Ok (Name p)) = subst (λ (z : Line). Within (length l) (Ok z)) o (subst (Within (length l)) (sym e ∙ g) (line_in l)) in
+    let r = w.order in
     let i = w.inside in
     let k = length-take-le (at + n - at) (drop at file) (omega (arith, length-drop at file)) in
     (omega arith, omega arith)
@@ -113,43 +116,43 @@ scan_end {file = file} {at = at} {s = s} a h =
     sym (after_none s) ∙ ap (λ (l : List ℕ). after s (lines at l)) (sym (drop_of_length-le file h)) ∙ a.left
 
 -- ---- the samples' places
-pub store_same : {x y : Line} {k : ℕ} {times times' : List ℤ} {freqs freqs' : List Float} → x ≡ y → Stored y k times times' freqs freqs' → Stored x k times times' freqs freqs'
-store_same {k = k} {times = t} {times' = t'} {freqs = f} {freqs' = f'} e h = subst (λ (z : Line). Stored z k t t' f f') (sym e) h
+pub store_same : {x y : Result Line Refusal} {k : ℕ} {times times' : List ℤ} {freqs freqs' : List Float} → x ≡ y → Stored y k times times' freqs freqs' → Stored x k times times' freqs freqs'
+store_same {k = k} {times = t} {times' = t'} {freqs = f} {freqs' = f'} e h = subst (λ (z : Result Line Refusal). Stored z k t t' f f') (sym e) h
 
-time_length : (x : Line) (ts : List ℤ) → length (time_before x ts) ≡ length (time_before x []) + length ts
-time_length Skipped ts = omega arith
-time_length (Refusal k) ts = omega arith
-time_length (Name a b) ts = omega arith
-time_length (Center f) ts = omega arith
-time_length (Sample t f) ts = omega arith
+time_length : (x : Result Line Refusal) (ts : List ℤ) → length (time_before x ts) ≡ length (time_before x []) + length ts
+time_length (Ok Skipped) ts = omega arith
+time_length (Err r) ts = omega arith
+time_length (Ok (Name n)) ts = omega arith
+time_length (Ok (Center f)) ts = omega arith
+time_length (Ok (Sample t f)) ts = omega arith
 
-freq_length : (x : Line) (fs : List Float) → length (freq_before x fs) ≡ length (time_before x []) + length fs
-freq_length Skipped ts = omega arith
-freq_length (Refusal k) ts = omega arith
-freq_length (Name a b) ts = omega arith
-freq_length (Center f) ts = omega arith
-freq_length (Sample t f) ts = omega arith
+freq_length : (x : Result Line Refusal) (fs : List Float) → length (freq_before x fs) ≡ length (time_before x []) + length fs
+freq_length (Ok Skipped) ts = omega arith
+freq_length (Err r) ts = omega arith
+freq_length (Ok (Name n)) ts = omega arith
+freq_length (Ok (Center f)) ts = omega arith
+freq_length (Ok (Sample t f)) ts = omega arith
 
-time_join : (x : Line) (l : List ℤ) (k : ℕ) (ts : List ℤ) → sets l k (time_before x ts) ≡ sets (sets l k (time_before x [])) (k + length (time_before x [])) ts
-time_join Skipped l k ts = ap (λ (m : ℕ). sets l m ts) (sym (add-zero k))
-time_join (Refusal n) l k ts = ap (λ (m : ℕ). sets l m ts) (sym (add-zero k))
-time_join (Name a b) l k ts = ap (λ (m : ℕ). sets l m ts) (sym (add-zero k))
-time_join (Center f) l k ts = ap (λ (m : ℕ). sets l m ts) (sym (add-zero k))
-time_join (Sample t f) l k ts = ap (λ (m : ℕ). sets (set l k t) m ts) (sym (add-one k))
+time_join : (x : Result Line Refusal) (l : List ℤ) (k : ℕ) (ts : List ℤ) → sets l k (time_before x ts) ≡ sets (sets l k (time_before x [])) (k + length (time_before x [])) ts
+time_join (Ok Skipped) l k ts = ap (λ (m : ℕ). sets l m ts) (sym (add-zero k))
+time_join (Err r) l k ts = ap (λ (m : ℕ). sets l m ts) (sym (add-zero k))
+time_join (Ok (Name n)) l k ts = ap (λ (m : ℕ). sets l m ts) (sym (add-zero k))
+time_join (Ok (Center f)) l k ts = ap (λ (m : ℕ). sets l m ts) (sym (add-zero k))
+time_join (Ok (Sample t f)) l k ts = ap (λ (m : ℕ). sets (set l k t) m ts) (sym (add-one k))
 
-freq_join : (x : Line) (l : List Float) (k : ℕ) (fs : List Float) → sets l k (freq_before x fs) ≡ sets (sets l k (freq_before x [])) (k + length (time_before x [])) fs
-freq_join Skipped l k fs = ap (λ (m : ℕ). sets l m fs) (sym (add-zero k))
-freq_join (Refusal n) l k fs = ap (λ (m : ℕ). sets l m fs) (sym (add-zero k))
-freq_join (Name a b) l k fs = ap (λ (m : ℕ). sets l m fs) (sym (add-zero k))
-freq_join (Center f) l k fs = ap (λ (m : ℕ). sets l m fs) (sym (add-zero k))
-freq_join (Sample t f) l k fs = ap (λ (m : ℕ). sets (set l k f) m fs) (sym (add-one k))
+freq_join : (x : Result Line Refusal) (l : List Float) (k : ℕ) (fs : List Float) → sets l k (freq_before x fs) ≡ sets (sets l k (freq_before x [])) (k + length (time_before x [])) fs
+freq_join (Ok Skipped) l k fs = ap (λ (m : ℕ). sets l m fs) (sym (add-zero k))
+freq_join (Err r) l k fs = ap (λ (m : ℕ). sets l m fs) (sym (add-zero k))
+freq_join (Ok (Name n)) l k fs = ap (λ (m : ℕ). sets l m fs) (sym (add-zero k))
+freq_join (Ok (Center f)) l k fs = ap (λ (m : ℕ). sets l m fs) (sym (add-zero k))
+freq_join (Ok (Sample t f)) l k fs = ap (λ (m : ℕ). sets (set l k f) m fs) (sym (add-one k))
 
-count_next : (p : PassFile) (v : ℕ) (x : Line) → (advance p v x).count ≡ p.count + length (time_before x [])
-count_next p v Skipped = omega arith
-count_next p v (Refusal k) = omega arith
-count_next p v (Name a b) = omega arith
-count_next p v (Center f) = omega arith
-count_next p v (Sample t f) = omega arith
+count_next : (p : PassFile) (v : ℕ) (x : Result Line Refusal) → (advance p v x).count ≡ p.count + length (time_before x [])
+count_next p v (Ok Skipped) = omega arith
+count_next p v (Err r) = omega arith
+count_next p v (Ok (Name n)) = omega arith
+count_next p v (Ok (Center f)) = omega arith
+count_next p v (Ok (Sample t f)) = omega arith
 
 -- what is left to read and to store gives the whole
 pub record Scanning (file : List ℕ) (times₀ : List ℤ) (freqs₀ : List Float) (at : ℕ) (s : PassFile) (times : List ℤ) (freqs : List Float) : Type 0 where
@@ -257,6 +260,12 @@ module _ {ℓ} {A : Type ℓ} where
   front : (l vs : List A) → length vs ≤ length l → take (length vs) (sets l 0 vs) ≡ vs
   front l vs h = ap (take (length vs)) (sets-eq vs l 0 (omega arith)) ∙ take-append_seam vs (drop (0 + length vs) l)
 
+  -- a copy to the first places
+  pub to_front : (to src : List A) (n : ℕ) → n ≤ length to → n ≤ length src → take n src ++ drop n to ≡ sets to 0 (take n src)
+  to_front to src n h g =
+      let e = length-take-le n src g in
+      sym (sets-eq (take n src) to 0 (omega arith) ∙ ap (λ (k : ℕ). take n src ++ drop k to) (let z : 0 + length (take n src) ≡ n = omega arith in z))
+
 pub copied : (file : List ℕ) {s : PassFile} {kept₀ kept : List ℤ} {keptf₀ keptf : List Float} {times times' : List ℤ} {freqs freqs' : List Float}
     → Scan file kept₀ kept keptf₀ keptf s → s.refusal ≡ 0 → s.count ≤ length kept₀ → s.count ≤ length keptf₀
     → times' ≡ sets times 0 (take s.count kept) → freqs' ≡ sets freqs 0 (take s.count keptf) → Filled file times times' freqs freqs'
@@ -268,27 +277,3 @@ copied file {s = s} {kept₀ = k₀} {keptf₀ = f₀} {times = times} {freqs = 
       put_times = p ∙ ap (sets times 0) ((λ i. take (c.times i) (h.put_times g i)) ∙ front k₀ ts (subst (λ (x : ℕ). x ≤ length k₀) c.times n));
       put_freqs = q ∙ ap (sets freqs 0) ((λ i. take (c.freqs i) (h.put_freqs g i)) ∙ front f₀ fs (subst (λ (x : ℕ). x ≤ length f₀) c.freqs m));
     }
-
--- ---- a copy: what is left to copy gives the whole
-module _ {ℓ} {A : Type ℓ} where
-  pub record Copying (n : ℕ) (src to₀ to : List A) (i : ℕ) : Type ℓ where
-    pub inside : i ≤ n
-    pub long : length to ≡ length to₀
-    pub left : sets to i (take (n - i) (drop i src)) ≡ sets to₀ 0 (take n src)
-
-  pub copy_start : (n : ℕ) (src to : List A) → Copying n src to to 0
-  copy_start n src to = record { inside = omega arith; long = refl; left = ap (λ (k : ℕ). sets to 0 (take k src)) (sub-zero n) }
-
-  pub copy_more : (n : ℕ) (src to₀ to : List A) (i : ℕ) (d : A) → n ≤ length src → Copying n src to₀ to i → i < n → Copying n src to₀ (set to i (get_or src i d)) (i + 1)
-  copy_more n src to₀ to i d h a l =
-      let e : n - i ≡ suc (n - (i + 1)) = omega arith in
-      let f : take (n - i) (drop i src) ≡ get_or src i d ∷ take (n - (i + 1)) (drop (i + 1) src) =
-      (λ j. take (e j) (drop-cons src i d (omega arith) j)) ∙ ap (λ (k : ℕ). get_or src i d ∷ take (n - (i + 1)) (drop k src)) (sym (add-one i)) in
-      record {
-        inside = omega arith;
-        long = length-set to i (get_or src i d) ∙ a.long;
-        left = ap (λ (k : ℕ). sets (set to i (get_or src i d)) k (take (n - (i + 1)) (drop (i + 1) src))) (add-one i) ∙ ap (sets to i) (sym f) ∙ a.left;
-      }
-
-  pub copy_end : (n : ℕ) (src to₀ to : List A) (i : ℕ) → Copying n src to₀ to i → n ≤ i → to ≡ sets to₀ 0 (take n src)
-  copy_end n src to₀ to i a h = let e : n - i ≡ 0 = omega arith in ap (λ (k : ℕ). sets to i (take k (drop i src))) (sym e) ∙ a.left

@@ -1,55 +1,68 @@
 -- Lines, blanks and bytes of a list, one byte on. Assumes nothing.
-use mathlib.Core.Path.{◌≡◌, refl, sym, ap, ◌∙◌}
-use mathlib.Core.Bool.{Bool, true, false, cond}
+use mathlib.Core.Path.{◌≡◌, refl, sym, ap, ◌∙◌, subst}
+use mathlib.Core.Bool.{Bool, true, false, not, ◌&&◌, cond}
 use mathlib.Core.List.{List, [], ◌∷◌, ◌++◌}
 use Prim.Native.Nat.{ℕ, zero, suc, ◌+◌, ◌-◌, ◌≤◌, ◌<◌}
-use native.Mathlib.Numerals.{add-one}
 use native.Mathlib.Omega.{arith}
-use lib.ListN.{length, get_or, take, drop, drop_of_length-le, length-drop}
-use lib.Seq.{drop-cons, take-suc, length-take-le}
-use borrow.Author.Tests.{eq-eqb, ne_eqb, le-leb, lt-leb}
+use lib.Dec.{leb, ltb, eqb}
+use Rattle.std.proofs.Common.{Option, Some, None}
+use Rattle.std.specs.Option.{unwrap_or}
+use lib.ListN.{length, get_or, take, drop, length-drop}
+use lib.Seq.{take-suc, take-length, length-take-le}
+use borrow.Author.Tests.{le-leb, lt-leb, ltb-false}
+use Rattle.std.specs.Bool.{MatchBool}
+use Rattle.std.specs.Str.{IsAscii, IsNotAscii}
+use Rattle.std.specs.List.{prefix_len, position_or_len, suffix_len}
+use Rattle.std.proofs.lemmas.List.Recursion.{and_is}
+use Rattle.std.proofs.lemmas.List.Sums.{prefix_len-le-length, suffix_len-take_yes, suffix_len-take_no}
+use Rattle.decimal.proofs.Scan.{present}
 use Rattle.laws.proofs.Lists.{rest}
-use Rattle.passes.specs.Text.{blank, blanks, keep_trimmed, trim_end, trim, until, ascii, Trimmed, Blanks, TrimsTo}
+use Rattle.passes.specs.Text.{blank, blanks, keep_trimmed, trim_end, trim, until, ascii, Trimmed, Blanks, TrimsTo, Until}
 
-module _ (l : List ℕ) (i : ℕ) (h : i < length l) where
-  here : drop i l ≡ get_or l i 0 ∷ drop (i + 1) l
-  here = drop-cons l i 0 h ∙ ap (λ (k : ℕ). get_or l i 0 ∷ drop k l) (sym (add-one i))
+-- ---- as the library counts and tests them
 
-  pub ascii_next : get_or l i 0 ≤ 127 → ascii (drop i l) ≡ ascii (drop (i + 1) l)
-  unfolding ascii
-  ascii_next a = ap ascii here ∙ simp (le-leb (get_or l i 0) 127 a)
-
-  pub ascii_above : 127 < get_or l i 0 → ascii (drop i l) ≡ false
-  unfolding ascii
-  ascii_above a = ap ascii here ∙ simp (lt-leb (get_or l i 0) 127 a)
-
-  pub until_here : (b : ℕ) → get_or l i 0 ≡ b → until b (drop i l) ≡ 0
-  unfolding until
-  until_here b e = ap (until b) here ∙ simp (eq-eqb (get_or l i 0) b e)
-
-  pub until_next : (b : ℕ) → (get_or l i 0 ≡ b → ⊥) → until b (drop i l) ≡ suc (until b (drop (i + 1) l))
-  unfolding until
-  until_next b e = ap (until b) here ∙ simp (ne_eqb (get_or l i 0) b e)
-
-  pub blanks_next : blank (get_or l i 0) ≡ true → blanks (drop i l) ≡ suc (blanks (drop (i + 1) l))
-  unfolding blanks
-  blanks_next e = ap blanks here ∙ simp e
-
-  pub blanks_here : blank (get_or l i 0) ≡ false → blanks (drop i l) ≡ 0
-  unfolding blanks
-  blanks_here e = ap blanks here ∙ simp e
-
-pub ascii_end : (l : List ℕ) (i : ℕ) → length l ≤ i → ascii (drop i l) ≡ true
-unfolding ascii
-ascii_end l i h = ap ascii (drop_of_length-le l h)
-
-pub until_end : (b : ℕ) (l : List ℕ) (i : ℕ) → length l ≤ i → until b (drop i l) ≡ 0
-unfolding until
-until_end b l i h = ap (until b) (drop_of_length-le l h)
-
-pub blanks_end : (l : List ℕ) (i : ℕ) → length l ≤ i → blanks (drop i l) ≡ 0
+pub blanks_is : (l : List ℕ) → blanks l ≡ prefix_len blank l
 unfolding blanks
-blanks_end l i h = ap blanks (drop_of_length-le l h)
+blanks_is [] = refl
+blanks_is (c ∷ l) = ap (λ (n : ℕ). cond (blank c) n 0) (let h = blanks_is l in omega arith)
+
+pub until_is : (b : ℕ) (l : List ℕ) → until b l ≡ position_or_len (λ (c : ℕ). eqb c b) l
+unfolding until
+until_is b [] = refl
+until_is b (c ∷ l) = go (eqb c b) (until_is b l)
+  where
+    go : (x : Bool) → until b l ≡ position_or_len (λ (c : ℕ). eqb c b) l → cond x 0 (suc (until b l)) ≡ cond (not x) (1 + position_or_len (λ (c : ℕ). eqb c b) l) 0
+    go true h = refl
+    go false h = omega arith
+
+-- what `position` answers, or else the length
+pub until_found : (b : ℕ) (l : List ℕ) (r : Option ℕ) {k : ℕ} → r ≡ cond (ltb (position_or_len (λ (c : ℕ). eqb c b) l) (length l)) (Some (position_or_len (λ (c : ℕ). eqb c b) l)) None → k ≡ unwrap_or r (length l) → Until b l k
+until_found b l r {k = k} e f =
+    let n = position_or_len (λ (c : ℕ). eqb c b) l in
+    let most = prefix_len-le-length (λ (c : ℕ). not (eqb c b)) l in
+    let is : k ≡ n = f ∙ ap (λ (o : Option ℕ). unwrap_or o (length l)) e ∙ go n most (ltb n (length l)) refl in
+    record { inside = omega arith; is = is ∙ sym (until_is b l) }
+  where
+    go : (n : ℕ) → n ≤ length l → (x : Bool) → ltb n (length l) ≡ x → unwrap_or (cond x (Some n) None) (length l) ≡ n
+    go n h true q = refl
+    go n h false q = let k = ltb-false n (length l) q in omega arith
+
+-- what `is_ascii` answers
+pub ascii_told : (r : Bool) (l : List ℕ) → MatchBool r (IsAscii l) (IsNotAscii l) → r ≡ ascii l
+unfolding ascii
+ascii_told r l h = and_is ascii (λ (c : ℕ). leb c 127) refl (λ c l. and_cond (leb c 127) (ascii l)) l 0 r (below r h) (above r h)
+  where
+    and_cond : (b x : Bool) → cond b x false ≡ (b && x)
+    and_cond true x = refl
+    and_cond false x = refl
+
+    below : (r : Bool) → MatchBool r (IsAscii l) (IsNotAscii l) → r ≡ true → (i : ℕ) → i < length l → leb (get_or l i 0) 127 ≡ true
+    below true h e i g = let k = h i in le-leb (get_or l i 0) 127 (omega arith)
+    below false h e i g = let z : ◌≡◌ {A = ℕ} 0 1 = cc in absurd (omega arith)
+
+    above : (r : Bool) → MatchBool r (IsAscii l) (IsNotAscii l) → r ≡ false → (i : ℕ) × (i < length l) × (leb (get_or l i 0) 127 ≡ false)
+    above true h e = let z : ◌≡◌ {A = ℕ} 0 1 = cc in absurd (omega arith)
+    above false h e = (h.0, present l h.0 (get_or l h.0 0) refl (omega (arith, h.1)), lt-leb (get_or l h.0 0) 127 (omega (arith, h.1)))
 
 -- ---- from the end
 
@@ -77,10 +90,34 @@ module _ (l : List ℕ) (e : ℕ) (h : 0 < e) (g : e ≤ length l) where
   pub end_here : blank (get_or l (e - 1) 0) ≡ false → trim_end (take e l) ≡ take e l
   end_here b = ap trim_end last ∙ end_snoc (take (e - 1) l) (get_or l (e - 1) 0) ∙ (simp b) ∙ sym last
 
-pub end_end : (l : List ℕ) (e : ℕ) → e ≤ 0 → trim_end (take e l) ≡ take e l
+-- as the library counts blanks from the end back
+trims : (l : List ℕ) (e : ℕ) → e ≤ length l → take (e - suffix_len blank (take e l)) l ≡ trim_end (take e l)
 unfolding trim_end
-end_end l zero h = refl
-end_end l (suc e) h = absurd (omega arith)
+trims l zero h = let z : 0 - suffix_len blank [] ≡ 0 = omega arith in ap (λ (n : ℕ). take n l) z
+trims l (suc e) h = go (blank (get_or l e 0)) refl (trims l e (omega arith))
+  where
+    before : e ≡ suc e - 1
+    before = omega arith
+
+    go : (b : Bool) → blank (get_or l e 0) ≡ b → take (e - suffix_len blank (take e l)) l ≡ trim_end (take e l) → take (suc e - suffix_len blank (take (suc e) l)) l ≡ trim_end (take (suc e) l)
+    go true q ih =
+        let p : blank (get_or l (suc e - 1) 0) ≡ true = subst (λ (n : ℕ). blank (get_or l n 0) ≡ true) before q in
+        let s : suffix_len blank (take (suc e) l) ≡ 1 + suffix_len blank (take e l) = suffix_len-take_yes blank l (suc e) 0 (omega arith) h p ∙ ap (λ (n : ℕ). 1 + suffix_len blank (take n l)) (sym before) in
+        let n : suc e - suffix_len blank (take (suc e) l) ≡ e - suffix_len blank (take e l) = omega arith in
+        ap (λ (k : ℕ). take k l) n ∙ ih ∙ ap (λ (n : ℕ). trim_end (take n l)) before ∙ sym (end_next l (suc e) (omega arith) h p)
+    go false q ih =
+        let p : blank (get_or l (suc e - 1) 0) ≡ false = subst (λ (n : ℕ). blank (get_or l n 0) ≡ false) before q in
+        let s = suffix_len-take_no blank l (suc e) 0 (omega arith) h p in
+        let n : suc e - suffix_len blank (take (suc e) l) ≡ suc e = omega arith in
+        ap (λ (k : ℕ). take k l) n ∙ sym (end_here l (suc e) (omega arith) h p)
+
+pub trims_to : (l : List ℕ) (n : ℕ) → n ≡ suffix_len blank l → TrimsTo l (length l - n)
+trims_to l n e =
+    let w : suffix_len blank l ≡ suffix_len blank (take (length l) l) = ap (suffix_len blank) (sym (take-length l)) in
+    record {
+      inside = omega arith;
+      is = ap (λ (k : ℕ). take (length l - k) l) (e ∙ w) ∙ trims l (length l) (omega arith) ∙ ap trim_end (take-length l);
+    }
 
 -- ---- parts
 

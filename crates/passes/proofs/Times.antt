@@ -1,5 +1,6 @@
 -- Sample times: the range that is accepted, and nanoseconds since 1970 as a signed number. Assumes nothing.
 use mathlib.Core.Path.{◌≡◌, refl, sym, ap, ◌∙◌, subst}
+use mathlib.Core.Logic.{◌⊎◌, inl, inr}
 use mathlib.Core.Bool.{Bool, true, false, ◌&&◌, cond}
 use Prim.Native.Nat.{ℕ, suc, ◌+◌, ◌-◌, ◌*◌, ◌≤◌, ◌<◌}
 use native.Mathlib.Omega.{arith}
@@ -54,6 +55,10 @@ outside_early s n h = small_or n (time_in_range (since1970 s n)) (λ (k : n ≤ 
 pub outside_late : (s n : ℕ) → 64912838400 ≤ s → inside s n ≡ false
 unfolding inside
 outside_late s n h = and_no (time_in_range (since1970 s n)) (leb n 999999999) (late (s * 1000000000 + n) (omega arith))
+
+pub outside : (s n : ℕ) → (s < 61757078400) ⊎ (64912838400 ≤ s) → inside s n ≡ false
+outside s n (inl h) = outside_early s n h
+outside s n (inr h) = outside_late s n h
 
 pub inside_is : (s n : ℕ) → 61757078400 ≤ s → s < 64912838400 → leb n 999999999 ≡ inside s n
 unfolding inside

@@ -1,5 +1,5 @@
 -- What a pass file says: name, centre frequency and samples, or the number of its refusal.
-use Rattle.std.specs.Prelude.{ℕ, ◌+◌, ◌-◌, ◌≤◌, ◌≡◌, true, false, not, cond, List, [], ◌∷◌, ltb, eqb, ℤ, pos, Float, length, take, drop}
+use Rattle.std.specs.Prelude.{ℕ, ◌+◌, ◌-◌, ◌≤◌, ◌≡◌, true, false, not, cond, List, [], ◌∷◌, ltb, eqb, ℤ, pos, Float, length, take, drop, Result, Ok, Err}
 use Rattle.std.specs.Float.{binary64, fin}
 use Rattle.std.specs.Float.Ieee.{round}
 use Rattle.std.proofs.lemmas.List.Edits.{sets}
@@ -8,7 +8,9 @@ use Rattle.refusal.specs.Order.{first, ◌if◌}
 use Rattle.passes.specs.Text.{Placed, lines}
 use Rattle.passes.specs.Line.{line_of}
 use Rattle.passes.specs.declared.line.Line.{Line}
-use Rattle.passes.specs.declared.line.Line.TheVariants.{Skipped, Refusal, Name, Center, Sample}
+use Rattle.passes.specs.declared.line.Line.TheVariants.{Skipped, Name, Center, Sample}
+use Rattle.refusal.specs.declared.Refusal.{Refusal}
+use Rattle.refusal.specs.Refusals.{number_of}
 use Rattle.passes.specs.declared.file.PassFile.{PassFile}
 
 -- before the first line: no name is seen, and the centre is 150800000.0
@@ -20,12 +22,12 @@ unfoldable pub zeros : ℕ → PassFile
 zeros k = record { refusal = k; name_start = 0; name_end = 0; name_seen = false; center_freq = fin false 0 (pos 0); count = 0 }
 
 -- one line more, at a place in the file. The last name and the last frequency win.
-abbrev pub advance : PassFile → ℕ → Line → PassFile
-advance p at Skipped = p
-advance p at (Refusal k) = record { refusal = k; name_start = p.name_start; name_end = p.name_end; name_seen = p.name_seen; center_freq = p.center_freq; count = p.count }
-advance p at (Name a b) = record { refusal = p.refusal; name_start = at + a; name_end = at + b; name_seen = true; center_freq = p.center_freq; count = p.count }
-advance p at (Center f) = record { refusal = p.refusal; name_start = p.name_start; name_end = p.name_end; name_seen = p.name_seen; center_freq = f; count = p.count }
-advance p at (Sample t f) = record { refusal = p.refusal; name_start = p.name_start; name_end = p.name_end; name_seen = p.name_seen; center_freq = p.center_freq; count = p.count + 1 }
+abbrev pub advance : PassFile → ℕ → Result Line Refusal → PassFile
+advance p at (Ok Skipped) = p
+advance p at (Err r) = record { refusal = number_of r; name_start = p.name_start; name_end = p.name_end; name_seen = p.name_seen; center_freq = p.center_freq; count = p.count }
+advance p at (Ok (Name n)) = record { refusal = p.refusal; name_start = at + n.start; name_end = at + n.end; name_seen = true; center_freq = p.center_freq; count = p.count }
+advance p at (Ok (Center f)) = record { refusal = p.refusal; name_start = p.name_start; name_end = p.name_end; name_seen = p.name_seen; center_freq = f; count = p.count }
+advance p at (Ok (Sample t f)) = record { refusal = p.refusal; name_start = p.name_start; name_end = p.name_end; name_seen = p.name_seen; center_freq = p.center_freq; count = p.count + 1 }
 
 -- all lines, up to the first that is refused
 unfoldable pub after : PassFile → List Placed → PassFile
@@ -33,19 +35,19 @@ after p [] = p
 after p (l ∷ ls) = cond (eqb p.refusal 0) (after (advance p l.at (line_of l.bytes)) ls) p
 
 -- the times of the samples, and their frequencies
-abbrev pub time_before : Line → List ℤ → List ℤ
-time_before Skipped ts = ts
-time_before (Refusal k) ts = ts
-time_before (Name a b) ts = ts
-time_before (Center f) ts = ts
-time_before (Sample t f) ts = t ∷ ts
+abbrev pub time_before : Result Line Refusal → List ℤ → List ℤ
+time_before (Ok Skipped) ts = ts
+time_before (Err r) ts = ts
+time_before (Ok (Name n)) ts = ts
+time_before (Ok (Center f)) ts = ts
+time_before (Ok (Sample t f)) ts = t ∷ ts
 
-abbrev pub freq_before : Line → List Float → List Float
-freq_before Skipped fs = fs
-freq_before (Refusal k) fs = fs
-freq_before (Name a b) fs = fs
-freq_before (Center f) fs = fs
-freq_before (Sample t f) fs = f ∷ fs
+abbrev pub freq_before : Result Line Refusal → List Float → List Float
+freq_before (Ok Skipped) fs = fs
+freq_before (Err r) fs = fs
+freq_before (Ok (Name n)) fs = fs
+freq_before (Ok (Center f)) fs = fs
+freq_before (Ok (Sample t f)) fs = f ∷ fs
 
 unfoldable pub times_of : List Placed → List ℤ
 times_of [] = []
@@ -86,7 +88,7 @@ pub record BeforeLine (file : List ℕ) (at n : ℕ) (s : PassFile) (times : Lis
   pub same : length times ≡ length freqs
 
 -- the samples of a line stored from place k on; a place past the end takes none
-pub record Stored (x : Line) (k : ℕ) (times times' : List ℤ) (freqs freqs' : List Float) : Type 0 where
+pub record Stored (x : Result Line Refusal) (k : ℕ) (times times' : List ℤ) (freqs freqs' : List Float) : Type 0 where
   pub put_times : times' ≡ sets times k (time_before x [])
   pub put_freqs : freqs' ≡ sets freqs k (freq_before x [])
 

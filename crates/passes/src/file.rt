@@ -5,6 +5,7 @@ ghost use Rattle.passes.specs.File as File;
 
 use super::line::Line;
 use super::{line, pieces};
+use refusal::Refusal;
 
 // What a file says, with the name as a part of it: from name_start up to name_end.
 #[derive(Clone, Copy)]
@@ -46,20 +47,14 @@ fn opening() -> PassFile
 }
 
 // A line's sample at place k, where there is such a place.
-fn store(x: Line, k: usize, times: &mut [i64], freqs: &mut [f64])
+fn store(x: Result<Line, Refusal>, k: usize, times: &mut [i64], freqs: &mut [f64])
     requires { length times.old ≡ length freqs.old }
     ensures { File.Stored x k times.old times.new freqs.old freqs.new }
 {
-    match x {
-        Line::Skipped => {}
-        Line::Refusal(_) => {}
-        Line::Name(_, _) => {}
-        Line::Center(_) => {}
-        Line::Sample(t, f) => {
-            if k < times.len() {
-                times[k] = t;
-                freqs[k] = f;
-            }
+    if let Ok(Line::Sample(t, f)) = x {
+        if k < times.len() {
+            times[k] = t;
+            freqs[k] = f;
         }
     }
 }
@@ -80,38 +75,21 @@ fn step(
     let x = line::read_line(&file[at..e]);
     store(x, s.count, times, freqs);
     match x {
-        Line::Skipped => s,
-        Line::Refusal(k) => PassFile {
-            refusal: k,
-            name_start: s.name_start,
-            name_end: s.name_end,
-            name_seen: s.name_seen,
-            center_freq: s.center_freq,
-            count: s.count,
+        Err(r) => PassFile {
+            refusal: r.number(),
+            ..s
         },
-        Line::Name(a, b) => PassFile {
-            refusal: s.refusal,
-            name_start: at + a,
-            name_end: at + b,
+        Ok(Line::Skipped) => s,
+        Ok(Line::Name(p)) => PassFile {
+            name_start: at + p.start,
+            name_end: at + p.end,
             name_seen: true,
-            center_freq: s.center_freq,
-            count: s.count,
+            ..s
         },
-        Line::Center(f) => PassFile {
-            refusal: s.refusal,
-            name_start: s.name_start,
-            name_end: s.name_end,
-            name_seen: s.name_seen,
-            center_freq: f,
-            count: s.count,
-        },
-        Line::Sample(_, _) => PassFile {
-            refusal: s.refusal,
-            name_start: s.name_start,
-            name_end: s.name_end,
-            name_seen: s.name_seen,
-            center_freq: s.center_freq,
+        Ok(Line::Center(center_freq)) => PassFile { center_freq, ..s },
+        Ok(Line::Sample(_, _)) => PassFile {
             count: s.count + 1,
+            ..s
         },
     }
 }
@@ -136,28 +114,6 @@ fn scan(file: &[u8], times: &mut [i64], freqs: &mut [f64]) -> PassFile
     s
 }
 
-fn copy_times(from: &[i64], n: usize, to: &mut [i64])
-    requires { (n ≤ length from.now) × (n ≤ length to.old) }
-    ensures { to.new ≡ sets to.old 0 (take n from.now) }
-{
-    let mut i = 0;
-    while i < n {
-        to[i] = from[i];
-        i += 1;
-    }
-}
-
-fn copy_freqs(from: &[f64], n: usize, to: &mut [f64])
-    requires { (n ≤ length from.now) × (n ≤ length to.old) }
-    ensures { to.new ≡ sets to.old 0 (take n from.now) }
-{
-    let mut i = 0;
-    while i < n {
-        to[i] = from[i];
-        i += 1;
-    }
-}
-
 // Reads a pass file. Its samples go into `times` (nanoseconds since 1970) and `freqs`: a refusal writes none of them, so they
 // are kept apart until the last line is read.
 pub fn read_pass_file(file: &[u8], times: &mut [i64], freqs: &mut [f64]) -> PassFile
@@ -167,35 +123,24 @@ pub fn read_pass_file(file: &[u8], times: &mut [i64], freqs: &mut [f64]) -> Pass
     let mut kept_freqs = [0.0f64; 4096];
     let s = scan(file, &mut kept_times, &mut kept_freqs);
     let n = s.count;
-    let k = s.refusal;
-    if k != 0 {
-        return refused(k);
+    if s.refusal != 0 {
+        return refused(s.refusal);
     }
     if 4096 < n {
-        return refused(refusal::SIZES);
+        return refused(Refusal::Sizes.number());
     }
-    if times.len() < n {
-        return refused(refusal::SHORT_MEMORY);
+    if times.len() < n || freqs.len() < n {
+        return refused(Refusal::ShortMemory.number());
     }
-    if freqs.len() < n {
-        return refused(refusal::SHORT_MEMORY);
-    }
-    copy_times(&kept_times, n, times);
-    copy_freqs(&kept_freqs, n, freqs);
+    times[..n].copy_from_slice(&kept_times[..n]);
+    freqs[..n].copy_from_slice(&kept_freqs[..n]);
     s
 }
 
 // The name as a part of the file that the answer is of: empty where it is no part of it.
+#[tactic(auto, unfolding(crate::specs::File::name_of))]
 pub fn name(file: &[u8], r: PassFile) -> &[u8]
     ensures { result.now ≡ File.name_of file.now r }
 {
-    let s = r.name_start;
-    let e = r.name_end;
-    if file.len() < e {
-        return &file[..0];
-    }
-    if e < s {
-        return &file[..0];
-    }
-    &file[s..e]
+    file.get(r.name_start..r.name_end).unwrap_or(&[])
 }

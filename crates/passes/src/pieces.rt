@@ -3,57 +3,38 @@ ghost use Rattle.std.specs.Prelude.{◌≡◌, ◌+◌, ◌≤◌, ◌<◌, leng
 ghost use Rattle.passes.specs.Text as Text;
 
 // A part of a slice.
-#[derive(Clone, Copy)]
+#[derive(Clone, Copy, PartialEq, Eq, Debug)]
 pub struct Span {
     pub start: usize,
     pub end: usize,
 }
 
 // A line's length without its end, and the place of the next.
-#[derive(Clone, Copy)]
+#[derive(Clone, Copy, PartialEq, Eq, Debug)]
 pub struct Cut {
     pub size: usize,
     pub next: usize,
 }
 
+#[tactic(auto, unfolding(crate::specs::Text::blank))]
 fn blank(c: u8) -> bool
     ensures { result ≡ Text.blank c }
 {
-    if c == 32 {
-        return true;
-    }
-    if c < 9 {
-        return false;
-    }
-    c <= 13
+    c == b' ' || (9..=13).contains(&c)
 }
 
 // Where the first byte that is no blank stands.
 fn trim_start(l: &[u8]) -> usize
     ensures { Text.Blanks l.now result }
 {
-    let mut i = 0;
-    while i < l.len() {
-        if !blank(l[i]) {
-            return i;
-        }
-        i += 1;
-    }
-    i
+    l.iter().take_while(|c| blank(**c)).count()
 }
 
 // Where the last byte that is no blank ends.
 fn trim_end(l: &[u8]) -> usize
     ensures { Text.TrimsTo l.now result }
 {
-    let mut e = l.len();
-    while 0 < e {
-        if !blank(l[e - 1]) {
-            return e;
-        }
-        e -= 1;
-    }
-    e
+    l.len() - l.iter().rev().take_while(|c| blank(**c)).count()
 }
 
 // The part without the blanks at both ends.
@@ -72,27 +53,13 @@ pub fn trim(l: &[u8]) -> Span
 pub fn until(b: u8, l: &[u8]) -> usize
     ensures { Text.Until b l.now result }
 {
-    let mut i = 0;
-    while i < l.len() {
-        if l[i] == b {
-            return i;
-        }
-        i += 1;
-    }
-    i
+    l.iter().position(|c| *c == b).unwrap_or(l.len())
 }
 
 pub fn ascii(l: &[u8]) -> bool
     ensures { result ≡ Text.ascii l.now }
 {
-    let mut i = 0;
-    while i < l.len() {
-        if 127 < l[i] {
-            return false;
-        }
-        i += 1;
-    }
-    true
+    l.is_ascii()
 }
 
 // The first line.
@@ -100,21 +67,13 @@ pub fn line(l: &[u8]) -> Cut
     requires { 0 < length l.now }
     ensures { Text.Cut l.now result.size result.next }
 {
-    let k = until(10, l);
+    let k = until(b'\n', l);
     if k == l.len() {
         return Cut { size: k, next: k };
     }
-    if k == 0 {
-        return Cut { size: 0, next: 1 };
+    let next = k + 1;
+    if 0 < k && l[k - 1] == b'\r' {
+        return Cut { size: k - 1, next };
     }
-    if l[k - 1] == 13 {
-        return Cut {
-            size: k - 1,
-            next: k + 1,
-        };
-    }
-    Cut {
-        size: k,
-        next: k + 1,
-    }
+    Cut { size: k, next }
 }

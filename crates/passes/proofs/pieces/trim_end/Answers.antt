@@ -1,31 +1,17 @@
--- `passes::pieces::trim_end` meets its contract: what stands before e, trimmed, is the whole trimmed. Assumes nothing.
-use mathlib.Core.Path.{sym, ap, ◌∙◌}
-use native.Mathlib.Omega.{arith}
-use lib.Seq.{take-length}
-use Rattle.passes.specs.Text as Text
-use Rattle.passes.proofs.Texts.{end_here, end_next, end_end}
+-- `passes::pieces::trim_end` meets its contract: the library counts the blanks from the end back. Assumes nothing.
+use Rattle.std.proofs.Common.{◌∙◌, reverse, rules, tests}
+use Rattle.std.proofs.lemmas.Iterator.Adapters.{YieldsList-from_rev_slice}
+use Rattle.std.proofs.lemmas.Iterator.Consumers.{count_from_yields_List}
+use Rattle.std.proofs.lemmas.Iterator.Search.{YieldsList-from_take_while}
+use Rattle.std.proofs.lemmas.List.Folds.{length-prefix_len}
+use Rattle.passes.specs.Text.{blank}
+use Rattle.passes.proofs.Texts.{trims_to}
 use Rattle.passes.proofs.pieces.trim_end.Goals as goal
 
-pub loop-e-init : goal.loop-e-init
-loop-e-init c = (omega arith, ap Text.trim_end (take-length c.args.l.now))
-
-pub overflow_sub-e : goal.overflow_sub-e
-overflow_sub-e c = omega arith
-
-pub bounds-l-e : goal.bounds-l-e
-bounds-l-e c = omega arith
-
-pub returns-then-not-blank : goal.returns-then-not-blank
-returns-then-not-blank c = record { inside = omega arith; is = sym (end_here c.args.l.now c.loop-e.e (omega arith) (omega arith) (sym c.blank.ensures ∙ c.if-not-blank.true)) ∙ c.loop-e.invariant.1 }
-
-pub overflow_sub-e-in-loop-e : goal.overflow_sub-e-in-loop-e
-overflow_sub-e-in-loop-e c = omega arith
-
-pub loop-e-smaller : goal.loop-e-smaller
-loop-e-smaller c = omega arith
-
-pub loop-e-preserved : goal.loop-e-preserved
-loop-e-preserved c = (omega arith, sym (end_next c.args.l.now c.loop-e.e (omega arith) (omega arith) (sym c.blank.ensures ∙ c.if-not-blank.false)) ∙ c.loop-e.invariant.1)
-
 pub returns : goal.returns
-returns c = record { inside = omega arith; is = sym (end_end c.args.l.now c.loop-e.e (omega arith)) ∙ c.loop-e.invariant.1 }
+returns c =
+    let l = c.args.l.now in
+    trims_to l _
+    (count_from_yields_List c.take_while.result _ c.count.ensures.ran
+    (YieldsList-from_take_while _ blank (YieldsList-from_rev_slice l cc) c.take_while.ensures.closure c.take_while.ensures.done (λ x b q k. search (rules, tests)))
+    ∙ length-prefix_len blank (reverse l))

@@ -1,26 +1,19 @@
--- `passes::pieces::trim_start` meets its contract: i blanks and those of what is left are all. Assumes nothing.
-use mathlib.Core.Path.{sym, ◌∙◌}
-use native.Mathlib.Omega.{arith}
-use Rattle.passes.proofs.Texts.{blanks_here, blanks_next, blanks_end}
+-- `passes::pieces::trim_start` meets its contract: the library counts the blanks as the definition does. Assumes nothing.
+use Rattle.std.proofs.Common.{sym, ◌∙◌, arith, rules, tests}
+use Rattle.std.proofs.lemmas.Iterator.{YieldsList-from_slice}
+use Rattle.std.proofs.lemmas.Iterator.Consumers.{count_from_yields_List}
+use Rattle.std.proofs.lemmas.Iterator.Search.{YieldsList-from_take_while}
+use Rattle.std.proofs.lemmas.List.Folds.{length-prefix_len}
+use Rattle.std.proofs.lemmas.List.Sums.{prefix_len-le-length}
+use Rattle.passes.specs.Text.{blank}
+use Rattle.passes.proofs.Texts.{blanks_is}
 use Rattle.passes.proofs.pieces.trim_start.Goals as goal
 
-pub loop-i-init : goal.loop-i-init
-loop-i-init c = (omega arith, omega arith)
-
-pub bounds-l-i : goal.bounds-l-i
-bounds-l-i c = omega arith
-
-pub returns-then-not-blank : goal.returns-then-not-blank
-returns-then-not-blank c = record { inside = omega arith; is = omega (arith, blanks_here c.args.l.now c.loop-i.i (omega arith) (sym c.blank.ensures ∙ c.if-not-blank.true), c.loop-i.invariant.1) }
-
-pub overflow_add-i : goal.overflow_add-i
-overflow_add-i c = omega arith
-
-pub loop-i-smaller : goal.loop-i-smaller
-loop-i-smaller c = omega arith
-
-pub loop-i-preserved : goal.loop-i-preserved
-loop-i-preserved c = (omega arith, omega (arith, blanks_next c.args.l.now c.loop-i.i (omega arith) (sym c.blank.ensures ∙ c.if-not-blank.false), c.loop-i.invariant.1))
-
 pub returns : goal.returns
-returns c = record { inside = omega arith; is = omega (arith, blanks_end c.args.l.now c.loop-i.i (omega arith), c.loop-i.invariant.1) }
+returns c =
+    let l = c.args.l.now in
+    let e =
+    count_from_yields_List c.take_while.result _ c.count.ensures.ran
+    (YieldsList-from_take_while _ blank (YieldsList-from_slice l cc) c.take_while.ensures.closure c.take_while.ensures.done (λ x b q k. search (rules, tests)))
+    ∙ length-prefix_len blank l in
+    record { inside = omega (arith, prefix_len-le-length blank l); is = e ∙ sym (blanks_is l) }
