@@ -1,6 +1,6 @@
 -- What numbers of fields, and three of them, come to. Assumes nothing.
-use mathlib.Core.Path.{◌≡◌, refl, sym, ap, ◌∙◌}
-use mathlib.Core.Bool.{Bool, true, false}
+use mathlib.Core.Path.{◌≡◌, sym, ap, ◌∙◌}
+use mathlib.Core.Bool.{true, false}
 use mathlib.Core.List.{List, [], ◌∷◌, map}
 use Prim.Native.Nat.{ℕ, suc, ◌+◌, ◌-◌, ◌≤◌, ◌<◌}
 use native.Mathlib.Omega.{arith}
@@ -10,33 +10,29 @@ use borrow.Author.Tests.{ne_eqb}
 use Rattle.laws.proofs.Lists.{rest}
 use Rattle.text.specs.Text.{code}
 use Rattle.passes.specs.Text.{until}
-use Rattle.refusal.specs.Numbers as refusal
-use Rattle.refusal.specs.Order.{first, ◌if◌, unless}
-use Rattle.decimal.specs.Read.{number}
-use Rattle.decimal.specs.declared.read.Number.{Number}
-use Rattle.geodetic.specs.Ellipsoid.{off_limits, refused_position, wgs84_to_ecef_of}
+use Rattle.std.proofs.Common.{Result, Err}
+use Rattle.frame.specs.declared.Vec3.{Vec3}
+use Rattle.refusal.specs.declared.Refusal.{Refusal}
+use Rattle.refusal.specs.declared.Refusal.TheVariants.{NumberSize, PositionRange}
+use Rattle.decimal.specs.Read.{Number, number}
+use Rattle.geodetic.specs.Ellipsoid.{wgs84_to_ecef_of}
 use Rattle.geodetic.specs.Line.{fields_of, one_too_long, field_value, from_numbers}
-use Rattle.geodetic.specs.declared.Position.{Position}
 use Rattle.geodetic.proofs.Fields.{fields_one, fields_more, fields_some}
 
 -- not three: 13
-pub not_three : (ns : List Number) → (length ns ≡ 3 → ⊥) → refused_position refusal.position_range ≡ from_numbers ns
+pub not_three : (ns : List Number) → (length ns ≡ 3 → ⊥) → Err PositionRange ≡ from_numbers ns
 unfolding from_numbers
 not_three ns h = simp (ne_eqb (length ns) 3 h)
 
 -- three, one too long: 3
-pub three_long : (a b c : Number) → one_too_long (a ∷ b ∷ c ∷ []) ≡ true → refused_position refusal.number_size ≡ from_numbers (a ∷ b ∷ c ∷ [])
+pub three_long : (a b c : Number) → one_too_long (a ∷ b ∷ c ∷ []) ≡ true → Err NumberSize ≡ from_numbers (a ∷ b ∷ c ∷ [])
 unfolding from_numbers
 three_long a b c h = simp h
 
 -- none: the place by their values, which has 13 of its own
 pub three_taken : (a b c : Number) → one_too_long (a ∷ b ∷ c ∷ []) ≡ false → wgs84_to_ecef_of (field_value a) (field_value b) (field_value c) ≡ from_numbers (a ∷ b ∷ c ∷ [])
 unfolding from_numbers wgs84_to_ecef_of
-three_taken a b c h = simp h (go _ (off_limits (field_value a) (field_value b) (field_value c)))
-  where
-    go : (x : Position) (t : Bool) → unless refused_position (first ((13 if t) ∷ [])) x ≡ unless refused_position (first ((13 if t) ∷ [])) (unless refused_position (first ((13 if t) ∷ [])) x)
-    go x true = refl
-    go x false = refl
+three_taken a b c h = simp h
 
 -- ---- the numbers of a line's fields, where its first comma stands at k, or k is its length
 module _ (l : List ℕ) (k : ℕ) (e : k ≡ until (code ",") l) (b : k ≤ length l) where
@@ -50,10 +46,10 @@ module _ (l : List ℕ) (k : ℕ) (e : k ≡ until (code ",") l) (b : k ≤ leng
       ap (map number) (fields_more l z) ∙ (λ j. number (take (sym e j) l) ∷ map number (fields_of (drop (y j) l)))
 
   -- one field, and two
-  pub no_second : k ≡ length l → refused_position refusal.position_range ≡ from_numbers (map number (fields_of l))
+  pub no_second : k ≡ length l → Err PositionRange ≡ from_numbers (map number (fields_of l))
   no_second h = not_three (number l ∷ []) (λ (z : ◌≡◌ {A = ℕ} 1 3). omega arith) ∙ sym (ap from_numbers (only h))
 
-  pub no_third : (lat : Number) → k ≡ length l → refused_position refusal.position_range ≡ from_numbers (lat ∷ map number (fields_of l))
+  pub no_third : (lat : Number) → k ≡ length l → Err PositionRange ≡ from_numbers (lat ∷ map number (fields_of l))
   no_third lat h = not_three (lat ∷ number l ∷ []) (λ (z : ◌≡◌ {A = ℕ} 2 3). omega arith) ∙ sym (ap (λ (ns : List Number). from_numbers (lat ∷ ns)) (only h))
 
   -- three, and more
@@ -62,7 +58,7 @@ module _ (l : List ℕ) (k : ℕ) (e : k ≡ until (code ",") l) (b : k ≤ leng
       ap (λ (n : Number). from_numbers (lat ∷ lon ∷ n ∷ [])) (q ∙ ap (λ (j : ℕ). number (take j l)) h ∙ ap number (take-length l))
       ∙ sym (ap (λ (ns : List Number). from_numbers (lat ∷ lon ∷ ns)) (only h))
 
-  pub fourth : (lat lon : Number) → (k ≡ length l → ⊥) → refused_position refusal.position_range ≡ from_numbers (lat ∷ lon ∷ map number (fields_of l))
+  pub fourth : (lat lon : Number) → (k ≡ length l → ⊥) → Err PositionRange ≡ from_numbers (lat ∷ lon ∷ map number (fields_of l))
   fourth lat lon h =
       let m = map number (fields_of (drop (k + 1) l)) in
       let n = length-map (fields_of (drop (k + 1) l)) number in
@@ -71,6 +67,6 @@ module _ (l : List ℕ) (k : ℕ) (e : k ≡ until (code ",") l) (b : k ≤ leng
       ∙ sym (ap (λ (ns : List Number). from_numbers (lat ∷ lon ∷ ns)) (next h))
 
   -- the field up to the comma goes to f with those behind it
-  pub further : (f : List Number → Position) {r : Position} {p : Number} → r ≡ f (p ∷ map number (fields_of (take (length l - (k + 1)) (drop (k + 1) l)))) → p ≡ number (take k l)
+  pub further : (f : List Number → Result Vec3 Refusal) {r : Result Vec3 Refusal} {p : Number} → r ≡ f (p ∷ map number (fields_of (take (length l - (k + 1)) (drop (k + 1) l)))) → p ≡ number (take k l)
       → (k ≡ length l → ⊥) → r ≡ f (map number (fields_of l))
   further f g q h = g ∙ (λ j. f (q j ∷ map number (fields_of (rest l (k + 1) j)))) ∙ sym (ap f (next h))

@@ -2,26 +2,27 @@
 use mathlib.Core.Path.{◌≡◌, refl, sym, ap, ◌∙◌, subst}
 use mathlib.Core.Bool.{Bool, true, false, true≢false, not, ◌&&◌, cond}
 use mathlib.Core.List.{List, [], ◌∷◌, ◌++◌, map, append-nil, append_assoc}
-use Prim.Native.Nat.{ℕ, zero, suc, ◌+◌, ◌≤◌, ◌<◌}
+use Prim.Native.Nat.{ℕ, suc, ◌+◌, ◌≤◌}
 use native.Mathlib.Omega.{arith}
 use lib.Dec.{leb, ltb, eqb}
 use lib.ListN.{length, get_or, take, drop, take-append-drop}
 use lib.Ieee.{Float, is_nan}
-use borrow.Author.Tests.{ne_eqb, eqb-true, le-leb, lt-leb, leb-true, le-ltb, ltb-true, ltb-false, not-false}
+use borrow.Author.Tests.{ne_eqb, eqb-true, le-leb, lt-leb, leb-true, le-ltb, ltb-false, not-false}
 use Rattle.laws.proofs.Tests.{and_true, or_false}
 use Rattle.text.specs.Text.{bytes, code}
-use Rattle.decimal.specs.Read.{lower, spells, number}
+use Rattle.std.proofs.Common.{Option, None, Some, Ok, Err}
+use Rattle.frame.specs.declared.Vec3.{Vec3}
+use Rattle.decimal.specs.Read.{Number, lower, spells, number}
 use Rattle.decimal.specs.Grammar.{Digits, no_digit, digit, Sign, no_sign, plus, minus, Mantissa, whole, point_last, point_first, Exp, no_exp, exp, Body, is_inf, is_infinity, is_nan_lem, is_number, Written, written}
-use Rattle.decimal.specs.declared.read.Number.{Number}
-use Rattle.decimal.specs.declared.read.Number.TheVariants.{Nothing, Value, Refused}
+use Rattle.decimal.specs.declared.read.NumberError.TheVariants.{NotANumber, TooLong}
 use Rattle.decimal.proofs.Grammar.{Said, nothing, this, all_grammar, only_grammar, letter}
 use Rattle.passes.specs.Text.{blank, blanks, keep_trimmed, trim_end, trim, until, ascii}
-use Rattle.refusal.specs.Numbers as refusal
-use Rattle.refusal.specs.Order.{Refusal, first, ◌if◌, unless}
-use Rattle.geodetic.specs.Ellipsoid.{outside, off_limits, refused_position, located, earth_fixed, wgs84_to_ecef_of}
+use Rattle.refusal.specs.declared.Refusal.{Refusal}
+use Rattle.refusal.specs.declared.Refusal.TheVariants.{NonAscii, LongLine}
+use Rattle.refusal.specs.Refusals.{Check, first_of, ◌when◌, answer}
+use Rattle.geodetic.specs.Ellipsoid.{outside, off_limits, earth_fixed, wgs84_to_ecef_of}
 use Rattle.geodetic.specs.Line.{line_size, onto_first, fields_of, field_numbers, field_value, checks, position_said, from_numbers, line_refusal, read_position_of}
 use Rattle.geodetic.specs.Lines.{AllBlank, no_blank, blank_first, PositionLine, Says, ReaderTotal}
-use Rattle.geodetic.specs.declared.Position.{Position}
 use Rattle.geodetic.proofs.Fields.{fields_one}
 
 -- ---- the bytes of a line
@@ -147,11 +148,11 @@ unfolding until
 plain_until none = refl
 plain_until (more {c = c} p x) = simp (ne_eqb c 44 p.no_comma, plain_until x)
 
-said_plain : {l : List ℕ} {n : Number} → Said (Written l) n → (n ≡ Nothing → ⊥) → Each Plain l
+said_plain : {l : List ℕ} {n : Number} → Said (Written l) n → (n ≡ Err NotANumber → ⊥) → Each Plain l
 said_plain nothing h = absurd (h refl)
 said_plain (this w) h = written_plain w
 
-pub number_no_comma : (l : List ℕ) → (number l ≡ Nothing → ⊥) → until (code ",") l ≡ length l
+pub number_no_comma : (l : List ℕ) → (number l ≡ Err NotANumber → ⊥) → until (code ",") l ≡ length l
 number_no_comma l h = plain_until (said_plain (only_grammar l) h)
 
 -- ---- fields
@@ -258,11 +259,11 @@ clear_line : (l : List ℕ) → ascii l ≡ true → line_size l ≤ 256 → rea
 unfolding read_position_of line_refusal from_numbers
 clear_line l a s = simp (a, le-ltb 256 (line_size l) s)
 
-three_values : (lat lon alt : Float) → off_limits lat lon alt ≡ false → from_numbers (Value lat ∷ Value lon ∷ Value alt ∷ []) ≡ wgs84_to_ecef_of lat lon alt
-unfolding from_numbers
+three_values : (lat lon alt : Float) → off_limits lat lon alt ≡ false → from_numbers (Ok lat ∷ Ok lon ∷ Ok alt ∷ []) ≡ wgs84_to_ecef_of lat lon alt
+unfolding from_numbers wgs84_to_ecef_of
 three_values lat lon alt e = simp e
 
-inside_located : (lat lon alt : Float) → off_limits lat lon alt ≡ false → wgs84_to_ecef_of lat lon alt ≡ located (earth_fixed lat lon alt)
+inside_located : (lat lon alt : Float) → off_limits lat lon alt ≡ false → wgs84_to_ecef_of lat lon alt ≡ Ok (earth_fixed lat lon alt)
 unfolding wgs84_to_ecef_of
 inside_located lat lon alt e = simp e
 
@@ -277,52 +278,46 @@ reader_total_called {l = l} {lat = lat} {lon = lon} {alt = alt} line =
     let is : l ≡ line.before ++ (text ++ line.after) = line.is ∙ flat line.before line.latitude line.longitude line.height line.after in
     let clean : ascii l ≡ true = ap ascii is ∙ each_ascii (each_append (blank_ascii line.blank_before) (each_append (each_map visible_ascii seen) (blank_ascii line.blank_after))) in
     let trimmed : trim l ≡ text = ap trim is ∙ trim_visible line.blank_before seen line.blank_after in
-    let numbers : field_numbers l ≡ Value lat ∷ Value lon ∷ Value alt ∷ [] =
+    let numbers : field_numbers l ≡ Ok lat ∷ Ok lon ∷ Ok alt ∷ [] =
     ap (λ (x : List ℕ). map number (fields_of x)) trimmed ∙ ap (map number) (text_fields A B C)
     ∙ (λ i. all_grammar line.latitude_is i ∷ all_grammar line.longitude_is i ∷ all_grammar line.height_is i ∷ []) in
     clear_line l clean line.size ∙ ap from_numbers numbers ∙ three_values lat lon alt line.inside
 
 -- So it is accepted.
-pub reader_total_accepts : {l : List ℕ} {lat lon alt : Float} → PositionLine l lat lon alt → read_position_of l ≡ located (earth_fixed lat lon alt)
+pub reader_total_accepts : {l : List ℕ} {lat lon alt : Float} → PositionLine l lat lon alt → read_position_of l ≡ Ok (earth_fixed lat lon alt)
 reader_total_accepts {lat = lat} {lon = lon} {alt = alt} line = reader_total_called line ∙ inside_located lat lon alt line.inside
 
 -- ---- from the reader to a position line
 
--- an answer whose refusal is 0 is not the refused one
-unless_zero : (k : ℕ) (x : Position) → (unless refused_position k x).refusal ≡ 0 → k ≡ 0
-unfolding refused_position
-unless_zero zero x e = refl
-unless_zero (suc n) x e = e
+-- an answer that is a place is no refusal
+answer_ok : {A : Type 0} (o : Option Refusal) (x p : A) → answer o x ≡ Ok p → (o ≡ None) × (x ≡ p)
+answer_ok None x p e = (refl, cc)
+answer_ok (Some r) x p e = let z : ◌≡◌ {A = ℕ} 0 1 = cc in absurd (omega arith)
 
--- no check gives a number: none of their conditions holds
-abbrev Clear : List Refusal → Type 0
+-- no check refuses: none of their conditions holds
+abbrev Clear : List Check → Type 0
 Clear [] = Unit {0}
-Clear (r ∷ rs) = (r.when ≡ false) × Clear rs
+Clear (r ∷ rs) = (r.condition ≡ false) × Clear rs
 
--- none of the numbers is 0
-abbrev numbered : List Refusal → Bool
-numbered [] = true
-numbered (r ∷ rs) = ltb 0 r.number && numbered rs
-
-clear : (rs : List Refusal) → numbered rs ≡ true → first rs ≡ 0 → Clear rs
-clear [] n e = tt
-clear (r ∷ rs) n e = let m = and_true (ltb 0 r.number) (numbered rs) n in go r.when (ltb-true 0 r.number m.0) (clear rs m.1) e
+clear : (rs : List Check) → first_of rs ≡ None → Clear rs
+clear [] e = tt
+clear (r ∷ rs) e = go r.condition r.refusal (clear rs) e
   where
-    go : (b : Bool) → 0 < r.number → (first rs ≡ 0 → Clear rs) → cond b r.number (first rs) ≡ 0 → (b ≡ false) × Clear rs
-    go true h k e = absurd (omega arith)
-    go false h k e = (refl, k e)
+    go : (b : Bool) (x : Refusal) → (first_of rs ≡ None → Clear rs) → cond b (Some x) (first_of rs) ≡ None → (b ≡ false) × Clear rs
+    go true x k e = let z : ◌≡◌ {A = ℕ} 0 1 = cc in absurd (omega arith)
+    go false x k e = (refl, k e)
 
 -- without a refusal: at most 256 bytes, and three numbers inside 13's limits
 record Unrefused (l : List ℕ) (ns : List Number) : Type 0 where
   pub size : line_size l ≤ 256
   pub three : length ns ≡ 3
-  pub inside : off_limits (field_value (get_or ns 0 Nothing)) (field_value (get_or ns 1 Nothing)) (field_value (get_or ns 2 Nothing)) ≡ false
+  pub inside : off_limits (field_value (get_or ns 0 (Err NotANumber))) (field_value (get_or ns 1 (Err NotANumber))) (field_value (get_or ns 2 (Err NotANumber))) ≡ false
 
-unrefused : (l : List ℕ) → line_refusal l ≡ 0 → Unrefused l (field_numbers l)
+unrefused : (l : List ℕ) → line_refusal l ≡ None → Unrefused l (field_numbers l)
 unfolding line_refusal
 unrefused l e =
     let ns = field_numbers l in
-    let c = clear ((refusal.non_ascii if not (ascii l)) ∷ (refusal.long_line if ltb 256 (line_size l)) ∷ checks ns) refl e in
+    let c = clear ((NonAscii when not (ascii l)) ∷ (LongLine when ltb 256 (line_size l)) ∷ checks ns) e in
     let d = or_false (not (eqb (length ns) 3)) _ c.1.1.1.0 in
     record { size = ltb-false 256 (line_size l) c.1.0; three = eqb-true (length ns) 3 (not-false (eqb (length ns) 3) d.0); inside = d.1 }
 
@@ -341,18 +336,18 @@ three (a ∷ b ∷ c ∷ []) e = record { lat = a; lon = b; alt = c; is = refl }
 three (a ∷ b ∷ c ∷ d ∷ fs) e = absurd (omega arith)
 
 -- a field inside limits is a number of the grammar, and has a value
-valued : {f : List ℕ} {n : Number} (lo hi : Float) → Said (Written f) n → outside lo hi (field_value n) ≡ false → Written f (Value (field_value n))
+valued : {f : List ℕ} {n : Number} (lo hi : Float) → Said (Written f) n → outside lo hi (field_value n) ≡ false → Written f (Ok (field_value n))
 unfolding outside is_nan
 valued lo hi nothing e = absurd (true≢false e)
-valued lo hi (this {v = Nothing} w) e = absurd (true≢false e)
-valued lo hi (this {v = Value v} w) e = w
-valued lo hi (this {v = Refused} w) e = absurd (true≢false e)
+valued lo hi (this {v = Err NotANumber} w) e = absurd (true≢false e)
+valued lo hi (this {v = Ok v} w) e = w
+valued lo hi (this {v = Err TooLong} w) e = absurd (true≢false e)
 
 -- three fields that are numbers of the grammar, each with a value
 record Values (a b c : List ℕ) : Type 0 where
-  pub latitude_is : Written a (Value (field_value (number a)))
-  pub longitude_is : Written b (Value (field_value (number b)))
-  pub height_is : Written c (Value (field_value (number c)))
+  pub latitude_is : Written a (Ok (field_value (number a)))
+  pub longitude_is : Written b (Ok (field_value (number b)))
+  pub height_is : Written c (Ok (field_value (number c)))
 
 values : (a b c : List ℕ) → off_limits (field_value (number a)) (field_value (number b)) (field_value (number c)) ≡ false → Values a b c
 unfolding off_limits
@@ -371,14 +366,14 @@ unfolding trim
 split l t e = subst (Ends (drop (blanks l) l)) e (end_cut (drop (blanks l) l))
 
 -- A line that is accepted is a position line.
-pub reader_total_only : (l : List ℕ) → (read_position_of l).refusal ≡ 0 → Says l (read_position_of l)
+pub reader_total_only : (l : List ℕ) (p : Vec3) → read_position_of l ≡ Ok p → Says l p
 unfolding read_position_of
-reader_total_only l e =
+reader_total_only l p e =
     let ns = field_numbers l in
-    let zero-refusal : line_refusal l ≡ 0 = unless_zero (line_refusal l) (position_said ns) e in
-    let u = unrefused l zero-refusal in
+    let ok = answer_ok (line_refusal l) (position_said ns) p e in
+    let u = unrefused l ok.0 in
     let f = three (fields_of (trim l)) u.three in
-    let inside = subst (λ (fs : List (List ℕ)). off_limits (field_value (get_or (map number fs) 0 Nothing)) (field_value (get_or (map number fs) 1 Nothing)) (field_value (get_or (map number fs) 2 Nothing)) ≡ false) f.is u.inside in
+    let inside = subst (λ (fs : List (List ℕ)). off_limits (field_value (get_or (map number fs) 0 (Err NotANumber))) (field_value (get_or (map number fs) 1 (Err NotANumber))) (field_value (get_or (map number fs) 2 (Err NotANumber))) ≡ false) f.is u.inside in
     let v = values f.lat f.lon f.alt inside in
     let s = split l (f.lat ++ 44 ∷ (f.lon ++ 44 ∷ f.alt)) (three_joined (trim l) f.lat f.lon f.alt f.is) in
     record {
@@ -401,7 +396,7 @@ reader_total_only l e =
             size = u.size;
             inside = inside;
           };
-      is = ap (λ (k : ℕ). unless refused_position k (position_said ns)) zero-refusal ∙ ap (λ (fs : List (List ℕ)). position_said (map number fs)) f.is;
+      is = inside_located _ _ _ inside ∙ ap Ok (sym (ap (λ (fs : List (List ℕ)). position_said (map number fs)) f.is) ∙ ok.1);
     }
 
 -- A line is accepted exactly where it is a position line.

@@ -1,6 +1,6 @@
 -- A place on WGS 84's ellipsoid, by latitude and longitude in degrees and height in metres, in Earth-fixed metres; and refusal 13. Axis and flattening
 -- are the Rust's, which document 02 [1] makes the definition (NIMA TR 8350.2 has the same), and the formulae stand in the Rust's order.
-use Rattle.std.specs.Prelude.{◌≡◌, refl, Bool, ◌||◌, [], ◌∷◌, ℕ, Float}
+use Rattle.std.specs.Prelude.{◌≡◌, refl, Bool, ◌||◌, [], ◌∷◌, Float, Result}
 use Rattle.std.specs.Float.Ieee.{neg, lt, is_nan, of_bits, round}
 use Rattle.roots.specs.Root.{sqrt_of}
 use Rattle.float.specs.Constant.{decimal}
@@ -8,9 +8,9 @@ use Rattle.float.specs.Ops.{◌⊕◌, ◌⊖◌, ◌⊗◌, ◌⊘◌, bits, on
 use Rattle.float.specs.Trig.{sin_of, cos_of}
 use Rattle.frame.specs.Rotation.{place}
 use Rattle.frame.specs.declared.Vec3.{Vec3}
-use Rattle.refusal.specs.Numbers as refusal
-use Rattle.refusal.specs.Order.{first, ◌if◌, unless}
-use Rattle.geodetic.specs.declared.Position.{Position}
+use Rattle.refusal.specs.declared.Refusal.{Refusal}
+use Rattle.refusal.specs.declared.Refusal.TheVariants.{PositionRange}
+use Rattle.refusal.specs.Refusals.{first_of, ◌when◌, answer}
 
 -- metres
 unfoldable pub semi_major_axis : Float
@@ -50,12 +50,5 @@ off_limits lat lon alt =
     outside (neg (decimal 90 0)) (decimal 90 0) lat
     || (outside (neg (decimal 360 0)) (decimal 360 0) lon || outside (neg (decimal 500 0)) (decimal 10000 0) alt)
 
--- the number of a refusal, and zeros
-unfoldable pub refused_position : ℕ → Position
-refused_position k = record { refusal = k; ecef = place (bits 0) (bits 0) (bits 0) }
-
-abbrev pub located : Vec3 → Position
-located v = record { refusal = 0; ecef = v }
-
-unfoldable pub wgs84_to_ecef_of : Float → Float → Float → Position
-wgs84_to_ecef_of lat lon alt = unless refused_position (first ((refusal.position_range if off_limits lat lon alt) ∷ [])) (located (earth_fixed lat lon alt))
+unfoldable pub wgs84_to_ecef_of : Float → Float → Float → Result Vec3 Refusal
+wgs84_to_ecef_of lat lon alt = answer (first_of ((PositionRange when off_limits lat lon alt) ∷ [])) (earth_fixed lat lon alt)

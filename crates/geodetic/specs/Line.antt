@@ -1,15 +1,15 @@
 -- What a position line says: latitude, longitude and height with commas between them.
-use Rattle.std.specs.Prelude.{Bool, true, false, not, ◌&&◌, ◌||◌, cond, List, [], ◌∷◌, map, ℕ, ◌-◌, ltb, eqb, Float, length, get_or}
+use Rattle.std.specs.Prelude.{Bool, true, false, not, ◌&&◌, ◌||◌, cond, List, [], ◌∷◌, map, ℕ, ◌-◌, ltb, eqb, Float, length, get_or, Option, Result, Ok, Err}
 use Rattle.std.specs.Float.{nan}
 use Rattle.text.specs.Text.{code}
-use Rattle.decimal.specs.Read.{number}
-use Rattle.decimal.specs.declared.read.Number.{Number}
-use Rattle.decimal.specs.declared.read.Number.TheVariants.{Nothing, Value, Refused}
+use Rattle.decimal.specs.Read.{Number, number}
+use Rattle.decimal.specs.declared.read.NumberError.TheVariants.{NotANumber, TooLong}
 use Rattle.passes.specs.Text.{trim, ascii}
-use Rattle.refusal.specs.Numbers as refusal
-use Rattle.refusal.specs.Order.{Refusal, first, ◌if◌, unless}
-use Rattle.geodetic.specs.Ellipsoid.{off_limits, refused_position, wgs84_to_ecef_of}
-use Rattle.geodetic.specs.declared.Position.{Position}
+use Rattle.frame.specs.declared.Vec3.{Vec3}
+use Rattle.refusal.specs.declared.Refusal.{Refusal}
+use Rattle.refusal.specs.declared.Refusal.TheVariants.{NonAscii, LongLine, NumberSize, PositionRange}
+use Rattle.refusal.specs.Refusals.{Check, first_of, ◌when◌, answer}
+use Rattle.geodetic.specs.Ellipsoid.{off_limits, earth_fixed}
 
 -- how many bytes a line has without its end: an LF, or a CR and an LF, behind everything else
 unfoldable pub line_size : List ℕ → ℕ
@@ -33,34 +33,34 @@ field_numbers l = map number (fields_of (trim l))
 
 -- Rust would parse it
 abbrev pub parsed : Number → Bool
-parsed Nothing = false
-parsed (Value v) = true
-parsed Refused = true
+parsed (Err NotANumber) = false
+parsed (Ok v) = true
+parsed (Err TooLong) = true
 
 -- it has too many digits or too large an exponent
 abbrev pub too_long : Number → Bool
-too_long Nothing = false
-too_long (Value v) = false
-too_long Refused = true
+too_long (Err NotANumber) = false
+too_long (Ok v) = false
+too_long (Err TooLong) = true
 
 -- NaN, which 13 refuses, where there is none
 abbrev pub field_value : Number → Float
-field_value Nothing = nan
-field_value (Value v) = v
-field_value Refused = nan
+field_value (Err NotANumber) = nan
+field_value (Ok v) = v
+field_value (Err TooLong) = nan
 
 module _ (ns : List Number) where
   abbrev three : Bool
   three = eqb (length ns) 3
 
   abbrev lat : Number
-  lat = get_or ns 0 Nothing
+  lat = get_or ns 0 (Err NotANumber)
 
   abbrev lon : Number
-  lon = get_or ns 1 Nothing
+  lon = get_or ns 1 (Err NotANumber)
 
   abbrev alt : Number
-  alt = get_or ns 2 Nothing
+  alt = get_or ns 2 (Err NotANumber)
 
   -- three that Rust would all parse, and one of them too long
   abbrev pub one_too_long : Bool
@@ -70,19 +70,19 @@ module _ (ns : List Number) where
   abbrev pub no_place : Bool
   no_place = not three || off_limits (field_value lat) (field_value lon) (field_value alt)
 
-  abbrev pub checks : List Refusal
-  checks = (refusal.number_size if one_too_long) ∷ (refusal.position_range if no_place) ∷ []
+  abbrev pub checks : List Check
+  checks = (NumberSize when one_too_long) ∷ (PositionRange when no_place) ∷ []
 
   -- the place that they give
-  abbrev pub position_said : Position
-  position_said = wgs84_to_ecef_of (field_value lat) (field_value lon) (field_value alt)
+  abbrev pub position_said : Vec3
+  position_said = earth_fixed (field_value lat) (field_value lon) (field_value alt)
 
-  unfoldable pub from_numbers : Position
-  from_numbers = unless refused_position (first checks) position_said
+  unfoldable pub from_numbers : Result Vec3 Refusal
+  from_numbers = answer (first_of checks) position_said
 
 -- the bytes' own checks, then those
-unfoldable pub line_refusal : List ℕ → ℕ
-line_refusal l = first ((refusal.non_ascii if not (ascii l)) ∷ (refusal.long_line if ltb 256 (line_size l)) ∷ checks (field_numbers l))
+unfoldable pub line_refusal : List ℕ → Option Refusal
+line_refusal l = first_of ((NonAscii when not (ascii l)) ∷ (LongLine when ltb 256 (line_size l)) ∷ checks (field_numbers l))
 
-unfoldable pub read_position_of : List ℕ → Position
-read_position_of l = unless refused_position (line_refusal l) (position_said (field_numbers l))
+unfoldable pub read_position_of : List ℕ → Result Vec3 Refusal
+read_position_of l = answer (line_refusal l) (position_said (field_numbers l))

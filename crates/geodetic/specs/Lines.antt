@@ -1,13 +1,12 @@
 -- What a position line is, by the grammar of its numbers and without the reader. proofs/Total.antt shows that the reader takes these lines and no
 -- others.
-use Rattle.std.specs.Prelude.{◌≡◌, true, false, List, [], ◌∷◌, ◌++◌, ℕ, ◌≤◌, Float}
+use Rattle.std.specs.Prelude.{◌≡◌, true, false, List, [], ◌∷◌, ◌++◌, ℕ, ◌≤◌, Float, Ok}
 use Rattle.text.specs.Text.{bytes}
 use Rattle.decimal.specs.Grammar.{Written}
-use Rattle.decimal.specs.declared.read.Number.TheVariants.{Value}
 use Rattle.passes.specs.Text.{blank}
-use Rattle.geodetic.specs.Ellipsoid.{off_limits, earth_fixed, located, wgs84_to_ecef_of}
+use Rattle.geodetic.specs.Ellipsoid.{off_limits, earth_fixed, wgs84_to_ecef_of}
 use Rattle.geodetic.specs.Line.{line_size, read_position_of}
-use Rattle.geodetic.specs.declared.Position.{Position}
+use Rattle.frame.specs.declared.Vec3.{Vec3}
 
 -- nothing but the blanks of the pass file
 pub data AllBlank : List ℕ → Type 0 where
@@ -24,24 +23,24 @@ pub record PositionLine (l : List ℕ) (lat lon alt : Float) : Type 0 where
   pub after : List ℕ
   pub is : l ≡ before ++ latitude ++ bytes "," ++ longitude ++ bytes "," ++ height ++ after
   pub blank_before : AllBlank before
-  pub latitude_is : Written latitude (Value lat)
-  pub longitude_is : Written longitude (Value lon)
-  pub height_is : Written height (Value alt)
+  pub latitude_is : Written latitude (Ok lat)
+  pub longitude_is : Written longitude (Ok lon)
+  pub height_is : Written height (Ok alt)
   pub blank_after : AllBlank after
   pub size : line_size l ≤ 256
   pub inside : off_limits lat lon alt ≡ false
 
--- l is a position line, and p the answer to its three numbers
-pub record Says (l : List ℕ) (p : Position) : Type 0 where
+-- l is a position line, and p the place of its three numbers
+pub record Says (l : List ℕ) (p : Vec3) : Type 0 where
   pub lat : Float
   pub lon : Float
   pub alt : Float
   pub line : PositionLine l lat lon alt
-  pub is : p ≡ wgs84_to_ecef_of lat lon alt
+  pub is : wgs84_to_ecef_of lat lon alt ≡ Ok p
 
--- The reader takes every position line, with refusal 0 and the place of its three numbers, as `wgs84_to_ecef` answers them; and what it takes is a
+-- The reader takes every position line, with the place of its three numbers, as `wgs84_to_ecef` answers them; and what it takes is a
 -- position line.
 pub record ReaderTotal (l : List ℕ) : Type 0 where
-  pub accepts : (lat lon alt : Float) → PositionLine l lat lon alt → read_position_of l ≡ located (earth_fixed lat lon alt)
+  pub accepts : (lat lon alt : Float) → PositionLine l lat lon alt → read_position_of l ≡ Ok (earth_fixed lat lon alt)
   pub as_called : (lat lon alt : Float) → PositionLine l lat lon alt → read_position_of l ≡ wgs84_to_ecef_of lat lon alt
-  pub only : (read_position_of l).refusal ≡ 0 → Says l (read_position_of l)
+  pub only : (p : Vec3) → read_position_of l ≡ Ok p → Says l p

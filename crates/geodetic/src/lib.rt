@@ -8,51 +8,23 @@ ghost use Rattle.std.specs.Prelude.{◌≡◌};
 ghost use Rattle.geodetic.specs.Ellipsoid as Ellipsoid;
 
 use frame::Vec3;
-
-// Earth-fixed metres, as the fit takes them, and 0; if refused, the number and zeros.
-#[derive(Clone, Copy)]
-pub struct Position {
-    pub refusal: u32,
-    pub ecef: Vec3,
-}
-
-fn refused(refusal: u32) -> Position
-    ensures { result ≡ Ellipsoid.refused_position refusal }
-{
-    Position {
-        refusal,
-        ecef: Vec3 {
-            x: 0.0,
-            y: 0.0,
-            z: 0.0,
-        },
-    }
-}
+use refusal::Refusal;
 
 // A number that is NaN or not from lo to hi.
+#[tactic(auto, unfolding(crate::specs::Ellipsoid::outside))]
 fn is_outside(lo: f64, hi: f64, v: f64) -> bool
     ensures { result ≡ Ellipsoid.outside lo hi v }
 {
-    if v != v {
-        return true;
-    }
-    if v < lo {
-        return true;
-    }
-    hi < v
+    v.is_nan() || v < lo || hi < v
 }
 
 // Refusal 13's test.
 fn is_off_limits(lat_deg: f64, lon_deg: f64, alt_m: f64) -> bool
     ensures { result ≡ Ellipsoid.off_limits lat_deg lon_deg alt_m }
 {
-    if is_outside(-90.0, 90.0, lat_deg) {
-        return true;
-    }
-    if is_outside(-360.0, 360.0, lon_deg) {
-        return true;
-    }
-    is_outside(-500.0, 10000.0, alt_m)
+    is_outside(-90.0, 90.0, lat_deg)
+        || is_outside(-360.0, 360.0, lon_deg)
+        || is_outside(-500.0, 10000.0, alt_m)
 }
 
 fn eccentricity_squared() -> f64
@@ -83,13 +55,13 @@ fn earth_fixed(lat_deg: f64, lon_deg: f64, alt_m: f64) -> Vec3
     }
 }
 
-// Earth-fixed metres of a latitude, a longitude and a height above the ellipsoid.
-pub fn wgs84_to_ecef(lat_deg: f64, lon_deg: f64, alt_m: f64) -> Position
+// Earth-fixed metres, as the fit takes them, of a latitude, a longitude and a height above the ellipsoid.
+#[tactic(auto, unfolding(crate::specs::Ellipsoid::wgs84_to_ecef_of))]
+pub fn wgs84_to_ecef(lat_deg: f64, lon_deg: f64, alt_m: f64) -> Result<Vec3, Refusal>
     ensures { result ≡ Ellipsoid.wgs84_to_ecef_of lat_deg lon_deg alt_m }
 {
     if is_off_limits(lat_deg, lon_deg, alt_m) {
-        return refused(refusal::POSITION_RANGE);
+        return Err(Refusal::PositionRange);
     }
-    let ecef = earth_fixed(lat_deg, lon_deg, alt_m);
-    Position { refusal: 0, ecef }
+    Ok(earth_fixed(lat_deg, lon_deg, alt_m))
 }

@@ -3,144 +3,124 @@ ghost use Rattle.std.specs.Prelude.{◌≡◌, [], ◌∷◌, map};
 ghost use Rattle.decimal.specs.Read.{number};
 ghost use Rattle.geodetic.specs.Line as Spec;
 
-use super::Position;
 use decimal::read;
-use decimal::read::Number;
+use decimal::read::NumberError;
+use frame::Vec3;
 use passes::pieces;
+use refusal::Refusal;
 
 // How many bytes a line has without its end.
+#[tactic(auto, unfolding(crate::specs::Line::line_size))]
 fn size(l: &[u8]) -> usize
     ensures { result ≡ Spec.line_size l.now }
 {
-    let n = l.len();
-    if n == 0 {
-        return 0;
+    match l {
+        [text @ .., b'\r', b'\n'] => text.len(),
+        [text @ .., b'\n'] => text.len(),
+        _ => l.len(),
     }
-    if l[n - 1] != 10 {
-        return n;
-    }
-    if n == 1 {
-        return 0;
-    }
-    if l[n - 2] == 13 {
-        return n - 2;
-    }
-    n - 1
 }
 
-fn is_parsed(n: Number) -> bool
+fn is_parsed(n: Result<f64, NumberError>) -> bool
     ensures { result ≡ Spec.parsed n }
 {
-    match n {
-        Number::Nothing => false,
-        Number::Value(_) => true,
-        Number::Refused => true,
-    }
+    !matches!(n, Err(NumberError::NotANumber))
 }
 
-fn is_too_long(n: Number) -> bool
+fn is_too_long(n: Result<f64, NumberError>) -> bool
     ensures { result ≡ Spec.too_long n }
 {
-    match n {
-        Number::Nothing => false,
-        Number::Value(_) => false,
-        Number::Refused => true,
-    }
+    matches!(n, Err(NumberError::TooLong))
 }
 
 // NaN for what is no number: the limits refuse it.
-fn value(n: Number) -> f64
+fn value(n: Result<f64, NumberError>) -> f64
     ensures { result ≡ Spec.field_value n }
 {
-    match n {
-        Number::Nothing => 0.0 / 0.0,
-        Number::Value(v) => v,
-        Number::Refused => 0.0 / 0.0,
-    }
+    n.unwrap_or(f64::NAN)
 }
 
 // Rust would parse all three, and one is too long.
-fn is_one_too_long(lat: Number, lon: Number, alt: Number) -> bool
+fn is_one_too_long(
+    lat: Result<f64, NumberError>,
+    lon: Result<f64, NumberError>,
+    alt: Result<f64, NumberError>,
+) -> bool
     ensures { result ≡ Spec.one_too_long (lat ∷ lon ∷ alt ∷ []) }
 {
-    if !is_parsed(lat) {
-        return false;
-    }
-    if !is_parsed(lon) {
-        return false;
-    }
-    if !is_parsed(alt) {
-        return false;
-    }
-    if is_too_long(lat) {
-        return true;
-    }
-    if is_too_long(lon) {
-        return true;
-    }
-    is_too_long(alt)
+    is_parsed(lat)
+        && is_parsed(lon)
+        && is_parsed(alt)
+        && (is_too_long(lat) || is_too_long(lon) || is_too_long(alt))
 }
 
-fn place(lat: Number, lon: Number, alt: Number) -> Position
+fn place(
+    lat: Result<f64, NumberError>,
+    lon: Result<f64, NumberError>,
+    alt: Result<f64, NumberError>,
+) -> Result<Vec3, Refusal>
     ensures { result ≡ Spec.from_numbers (lat ∷ lon ∷ alt ∷ []) }
 {
     if is_one_too_long(lat, lon, alt) {
-        return super::refused(refusal::NUMBER_SIZE);
+        return Err(Refusal::NumberSize);
     }
     super::wgs84_to_ecef(value(lat), value(lon), value(alt))
 }
 
 // A field as it stands: a blank in it belongs to it.
-fn field(l: &[u8]) -> Number
+fn field(l: &[u8]) -> Result<f64, NumberError>
     ensures { result ≡ number l.now }
 {
     read::parse(l)
 }
 
 // Behind the second comma stands the height, and no comma more.
-fn third(lat: Number, lon: Number, l: &[u8]) -> Position
+fn third(
+    lat: Result<f64, NumberError>,
+    lon: Result<f64, NumberError>,
+    l: &[u8],
+) -> Result<Vec3, Refusal>
     ensures { result ≡ Spec.from_numbers (lat ∷ lon ∷ map number (Spec.fields_of l.now)) }
 {
     let k = pieces::until(b',', l);
     let end = l.len();
     if k != end {
-        return super::refused(refusal::POSITION_RANGE);
+        return Err(Refusal::PositionRange);
     }
     place(lat, lon, field(&l[..k]))
 }
 
-fn second(lat: Number, l: &[u8]) -> Position
+fn second(lat: Result<f64, NumberError>, l: &[u8]) -> Result<Vec3, Refusal>
     ensures { result ≡ Spec.from_numbers (lat ∷ map number (Spec.fields_of l.now)) }
 {
     let k = pieces::until(b',', l);
     if k == l.len() {
-        return super::refused(refusal::POSITION_RANGE);
+        return Err(Refusal::PositionRange);
     }
     third(lat, field(&l[..k]), &l[k + 1..])
 }
 
-fn first(l: &[u8]) -> Position
+fn first(l: &[u8]) -> Result<Vec3, Refusal>
     ensures { result ≡ Spec.from_numbers (map number (Spec.fields_of l.now)) }
 {
     let k = pieces::until(b',', l);
     if k == l.len() {
-        return super::refused(refusal::POSITION_RANGE);
+        return Err(Refusal::PositionRange);
     }
     second(field(&l[..k]), &l[k + 1..])
 }
 
 // The place that a line says: three numbers, the blanks at the line's ends trimmed and those beside commas not.
-pub fn read_position(line: &[u8]) -> Position
+#[tactic(auto, unfolding(crate::specs::Line::read_position_of, crate::specs::Line::line_refusal, crate::specs::Line::from_numbers))]
+pub fn read_position(line: &[u8]) -> Result<Vec3, Refusal>
     ensures { result ≡ Spec.read_position_of line.now }
 {
     if !pieces::ascii(line) {
-        return super::refused(refusal::NON_ASCII);
+        return Err(Refusal::NonAscii);
     }
     if 256 < size(line) {
-        return super::refused(refusal::LONG_LINE);
+        return Err(Refusal::LongLine);
     }
     let p = pieces::trim(line);
-    let s = p.start;
-    let e = p.end;
-    first(&line[s..e])
+    first(&line[p.start..p.end])
 }

@@ -1,11 +1,11 @@
-use mathlib.Core.Path.{sym, ◌∙◌}
+use mathlib.Core.Path.{sym}
 use lib.Seq.{length-take-le}
 use Rattle.geodetic.specs.Line.{from_numbers}
 use Rattle.geodetic.proofs.Numbers.{no_second, further}
 use Rattle.geodetic.proofs.line.first.Goals as goal
 
 pub returns-then-k-l : goal.returns-then-k-l
-returns-then-k-l c = let u = c.until-k.ensures in c.refused.ensures ∙ no_second _ _ u.is u.inside c.if-k-l.true
+returns-then-k-l c = let u = c.until-k.ensures in no_second _ _ u.is u.inside c.if-k-l.true
 
 pub slice_bounds-field-end : goal.slice_bounds-field-end
 slice_bounds-field-end c = sym (length-take-le _ _ c.until-k.ensures.inside)

@@ -1,10 +1,11 @@
+-- `geodetic::line::place` meets its contract. Assumes nothing.
 use mathlib.Core.Path.{sym, ◌∙◌}
 use Rattle.geodetic.specs.Ellipsoid.{wgs84_to_ecef_of}
 use Rattle.geodetic.proofs.Numbers.{three_long, three_taken}
 use Rattle.geodetic.proofs.line.place.Goals as goal
 
 pub returns-then-is_one_too_long : goal.returns-then-is_one_too_long
-returns-then-is_one_too_long c = c.refused.ensures ∙ three_long _ _ _ (sym c.is_one_too_long.ensures ∙ c.if-is_one_too_long.true)
+returns-then-is_one_too_long c = three_long _ _ _ (sym c.is_one_too_long.ensures ∙ c.if-is_one_too_long.true)
 
 pub returns : goal.returns
 returns c =

@@ -1,4 +1,4 @@
-use mathlib.Core.Path.{sym, ◌∙◌}
+use mathlib.Core.Path.{sym}
 use mathlib.Core.List.{◌∷◌}
 use lib.Seq.{length-take-le}
 use Rattle.geodetic.specs.Line.{from_numbers}
@@ -6,7 +6,7 @@ use Rattle.geodetic.proofs.Numbers.{no_third, further}
 use Rattle.geodetic.proofs.line.second.Goals as goal
 
 pub returns-then-k-l : goal.returns-then-k-l
-returns-then-k-l c = let u = c.until-k.ensures in c.refused.ensures ∙ no_third _ _ u.is u.inside _ c.if-k-l.true
+returns-then-k-l c = let u = c.until-k.ensures in no_third _ _ u.is u.inside _ c.if-k-l.true
 
 pub slice_bounds-field-end : goal.slice_bounds-field-end
 slice_bounds-field-end c = sym (length-take-le _ _ c.until-k.ensures.inside)
