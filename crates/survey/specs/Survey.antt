@@ -1,18 +1,19 @@
 -- Which lines of a pass file were skipped, and which was refused.
-use Rattle.std.specs.Prelude.{Bool, cond, List, [], ◌∷◌, ℕ, ◌+◌, ◌<◌, eqb, length}
+use Rattle.std.specs.Prelude.{Bool, cond, List, [], ◌∷◌, ℕ, ◌+◌, ◌<◌, eqb, length, Result, Ok, Err}
 use Rattle.passes.specs.Text.{Placed, trim}
 use Rattle.passes.specs.Line.{line_of}
 use Rattle.passes.specs.declared.line.Line.{Line}
-use Rattle.passes.specs.declared.line.Line.TheVariants.{Skipped, Refusal, Name, Center, Sample}
+use Rattle.passes.specs.declared.line.Line.TheVariants.{Skipped, Name, Center, Sample}
+use Rattle.refusal.specs.declared.Refusal.{Refusal}
 use Rattle.survey.specs.declared.Tally.{Tally}
 
 -- 0: empty; 1: skipped; 2: it says something; 3: refused
-abbrev pub class_of : Line → Bool → ℕ
-class_of Skipped blank = cond blank 0 1
-class_of (Refusal k) blank = 3
-class_of (Name a b) blank = 2
-class_of (Center f) blank = 2
-class_of (Sample t f) blank = 2
+abbrev pub class_of : Result Line Refusal → Bool → ℕ
+class_of (Ok Skipped) blank = cond blank 0 1
+class_of (Err r) blank = 3
+class_of (Ok (Name n)) blank = 2
+class_of (Ok (Center f)) blank = 2
+class_of (Ok (Sample t f)) blank = 2
 
 -- the first of two lines, 0 being none
 unfoldable pub first_line : ℕ → ℕ → ℕ

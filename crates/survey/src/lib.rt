@@ -34,11 +34,9 @@ fn class(l: &[u8]) -> u8
     let t = pieces::trim(l);
     let x = line::read_line(l);
     match x {
-        Line::Skipped => { if t.start == t.end { BLANK } else { SKIPPED } }
-        Line::Refusal(_) => REFUSED,
-        Line::Name(_, _) => USED,
-        Line::Center(_) => USED,
-        Line::Sample(_, _) => USED,
+        Err(_) => REFUSED,
+        Ok(Line::Skipped) => { if t.start == t.end { BLANK } else { SKIPPED } }
+        Ok(Line::Name(_) | Line::Center(_) | Line::Sample(_, _)) => USED,
     }
 }
 
