@@ -10,7 +10,8 @@ use lib.ListN.{length}
 use borrow.Author.Tests.{le-ltb}
 use Rattle.float.specs.Ops.{radians_of}
 use Rattle.decimal.specs.Read.{number}
-use Rattle.decimal.specs.declared.read.Number.TheVariants.{Nothing}
+use Rattle.std.proofs.Common.{Err}
+use Rattle.decimal.specs.declared.read.NumberError.TheVariants.{NotANumber}
 use Rattle.geodetic.proofs.Total.{number_no_comma}
 use Rattle.command_words.specs.Words.{is_line, if_number, mast_of, request_of}
 use Rattle.command_words.specs.declared.Mast.{Mast}
@@ -29,10 +30,10 @@ request_before received n x y z i =
     cond (ltb n 6) TooFew (cond (ltb 21 n) TooMany (Fit (mast_before x y z i) (record { received = received; first = cond received 2 1 + 4; files = n - 5 })))
 
 -- a number is no position line
-number_no_line : (x : List ℕ) → (number x ≡ Nothing → ⊥) → is_line x ≡ false
+number_no_line : (x : List ℕ) → (number x ≡ Err NotANumber → ⊥) → is_line x ≡ false
 unfolding is_line
 number_no_line x h = le-ltb _ _ (subst (λ (n : ℕ). length x ≤ n) (sym (number_no_comma x h)) (le_refl (length x)))
 
-pub request_as_before : (received : Bool) (n : ℕ) (x y z i : List ℕ) → (number x ≡ Nothing → ⊥) → request_of received n x y z i ≡ request_before received n x y z i
+pub request_as_before : (received : Bool) (n : ℕ) (x y z i : List ℕ) → (number x ≡ Err NotANumber → ⊥) → request_of received n x y z i ≡ request_before received n x y z i
 unfolding request_of mast_of
 request_as_before received n x y z i h = simp (number_no_line x h)

@@ -1,5 +1,5 @@
 -- What the command's words say.
-use Rattle.std.specs.Prelude.{ℕ, ◌+◌, ◌-◌, ◌≤◌, Bool, true, false, cond, ◌||◌, List, ltb, eqb, length, ◌≡◌, refl, Float}
+use Rattle.std.specs.Prelude.{ℕ, ◌+◌, ◌-◌, ◌≤◌, Bool, true, false, cond, ◌||◌, List, ltb, length, ◌≡◌, refl, Float, Result, Ok, Err}
 use Rattle.std.specs.Float.Ieee.{lt, of_bits, round}
 use Rattle.text.specs.Text.{bytes, code}
 use Rattle.roots.specs.Root.{sqrt_of}
@@ -9,10 +9,10 @@ use Rattle.frame.specs.Rotation.{place}
 use Rattle.frame.specs.declared.Vec3.{Vec3}
 use Rattle.passes.specs.Text.{until}
 use Rattle.geodetic.specs.Line.{read_position_of}
-use Rattle.geodetic.specs.declared.Position.{Position}
-use Rattle.decimal.specs.Read.{number}
-use Rattle.decimal.specs.declared.read.Number.{Number}
-use Rattle.decimal.specs.declared.read.Number.TheVariants.{Nothing, Value, Refused}
+use Rattle.refusal.specs.declared.Refusal.{Refusal}
+use Rattle.refusal.specs.Refusals.{number_of}
+use Rattle.decimal.specs.Read.{Number, number}
+use Rattle.decimal.specs.declared.read.NumberError.TheVariants.{NotANumber, TooLong}
 use Rattle.command_words.specs.declared.Layout.{Layout}
 use Rattle.command_words.specs.declared.Mast.{Mast}
 use Rattle.command_words.specs.declared.Mast.TheVariants.{At, NoNumber, LongNumber, NoPlace}
@@ -55,9 +55,9 @@ mast_words false = 4
 
 -- what follows from word k, if it is a number
 abbrev pub if_number : ℕ → Number → (Float → Mast) → Mast
-if_number k Nothing next = NoNumber k
-if_number k (Value v) next = next v
-if_number k Refused next = LongNumber k
+if_number k (Err NotANumber) next = NoNumber k
+if_number k (Ok v) next = next v
+if_number k (Err TooLong) next = LongNumber k
 
 -- the inclination is in degrees
 abbrev pub inclination_of : Vec3 → Number → Mast
@@ -73,8 +73,9 @@ abbrev pub x_of : Number → Number → Number → Number → Mast
 x_of x y z i = if_number 1 x (λ v. y_of v y z i)
 
 -- what a position line and the word behind it say
-abbrev pub line_mast : Position → Number → Mast
-line_mast p i = cond (eqb p.refusal 0) (inclination_of p.ecef i) (NoPlace p.refusal)
+abbrev pub line_mast : Result Vec3 Refusal → Number → Mast
+line_mast (Ok v) i = inclination_of v i
+line_mast (Err r) i = NoPlace (number_of r)
 
 -- of four words, or of two where the first is a position line; the first that is wrong answers
 unfoldable pub mast_of : List ℕ → List ℕ → List ℕ → List ℕ → Mast

@@ -7,10 +7,10 @@ ghost use Rattle.decimal.specs.Read.{spells};
 ghost use Rattle.command_words.specs.Words.{as_received, off_ground, is_line, mast_words, layout_of, request_of, mast_of, x_of, y_of, z_of, inclination_of, line_mast};
 
 use decimal::read;
-use decimal::read::Number;
+use decimal::read::NumberError;
 use frame::Vec3;
-use geodetic::Position;
 use passes::pieces;
+use refusal::Refusal;
 
 // The word that says that frequencies are as a receiver hears them, in any case of its letters.
 pub fn is_as_received(w: &[u8]) -> bool
@@ -70,54 +70,64 @@ fn mast_words(line: bool) -> usize
     if line { 2 } else { 4 }
 }
 
-fn inclination_of(v: Vec3, i: Number) -> Mast
+fn inclination_of(v: Vec3, i: Result<f64, NumberError>) -> Mast
     ensures { result ≡ inclination_of v i }
 {
     match i {
-        Number::Nothing => Mast::NoNumber(4),
-        Number::Value(d) => Mast::At(v, float::to_radians(d)),
-        Number::Refused => Mast::LongNumber(4),
+        Err(NumberError::NotANumber) => Mast::NoNumber(4),
+        Ok(d) => Mast::At(v, float::to_radians(d)),
+        Err(NumberError::TooLong) => Mast::LongNumber(4),
     }
 }
 
-fn z_of(x: f64, y: f64, z: Number, i: Number) -> Mast
+fn z_of(x: f64, y: f64, z: Result<f64, NumberError>, i: Result<f64, NumberError>) -> Mast
     ensures { result ≡ z_of x y z i }
 {
     match z {
-        Number::Nothing => Mast::NoNumber(3),
-        Number::Value(v) => inclination_of(Vec3 { x, y, z: v }, i),
-        Number::Refused => Mast::LongNumber(3),
+        Err(NumberError::NotANumber) => Mast::NoNumber(3),
+        Ok(v) => inclination_of(Vec3 { x, y, z: v }, i),
+        Err(NumberError::TooLong) => Mast::LongNumber(3),
     }
 }
 
-fn y_of(x: f64, y: Number, z: Number, i: Number) -> Mast
+fn y_of(
+    x: f64,
+    y: Result<f64, NumberError>,
+    z: Result<f64, NumberError>,
+    i: Result<f64, NumberError>,
+) -> Mast
     ensures { result ≡ y_of x y z i }
 {
     match y {
-        Number::Nothing => Mast::NoNumber(2),
-        Number::Value(v) => z_of(x, v, z, i),
-        Number::Refused => Mast::LongNumber(2),
+        Err(NumberError::NotANumber) => Mast::NoNumber(2),
+        Ok(v) => z_of(x, v, z, i),
+        Err(NumberError::TooLong) => Mast::LongNumber(2),
     }
 }
 
-fn x_of(x: Number, y: Number, z: Number, i: Number) -> Mast
+fn x_of(
+    x: Result<f64, NumberError>,
+    y: Result<f64, NumberError>,
+    z: Result<f64, NumberError>,
+    i: Result<f64, NumberError>,
+) -> Mast
     ensures { result ≡ x_of x y z i }
 {
     match x {
-        Number::Nothing => Mast::NoNumber(1),
-        Number::Value(v) => y_of(v, y, z, i),
-        Number::Refused => Mast::LongNumber(1),
+        Err(NumberError::NotANumber) => Mast::NoNumber(1),
+        Ok(v) => y_of(v, y, z, i),
+        Err(NumberError::TooLong) => Mast::LongNumber(1),
     }
 }
 
 // A position line's answer, and the inclination.
-fn line_of(p: Position, i: Number) -> Mast
+fn line_of(p: Result<Vec3, Refusal>, i: Result<f64, NumberError>) -> Mast
     ensures { result ≡ line_mast p i }
 {
-    if p.refusal == 0 {
-        return inclination_of(p.ecef, i);
+    match p {
+        Ok(v) => inclination_of(v, i),
+        Err(r) => Mast::NoPlace(r.number()),
     }
-    Mast::NoPlace(p.refusal)
 }
 
 // What the first four words say, or, where the first is a position line, the first two; the first that is wrong answers.
