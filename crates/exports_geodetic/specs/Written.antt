@@ -1,8 +1,17 @@
--- What a call gives for an answer: the refusal's number, and its three coordinates, or, refused, what was there.
-use Rattle.std.specs.Prelude.{◌≡◌, List, [], ◌∷◌, ℕ, Float}
-use Rattle.refusal.specs.Order.{unless_refused}
-use Rattle.geodetic.specs.declared.Position.{Position}
+-- What a call gives for an answer: the refusal's number, or 0, and its three coordinates, or, refused, what was there.
+use Rattle.std.specs.Prelude.{◌≡◌, List, [], ◌∷◌, ℕ, Float, Result, Ok, Err}
+use Rattle.frame.specs.declared.Vec3.{Vec3}
+use Rattle.refusal.specs.declared.Refusal.{Refusal}
+use Rattle.refusal.specs.Refusals.{number_of}
 
-pub record Gives (p : Position) (out out' : List Float) (r : ℕ) : Type 0 where
-  pub number : r ≡ p.refusal
-  pub place : out' ≡ unless_refused p.refusal (p.ecef.x ∷ p.ecef.y ∷ p.ecef.z ∷ []) out
+abbrev pub number_given : Result Vec3 Refusal → ℕ
+number_given (Ok v) = 0
+number_given (Err r) = number_of r
+
+abbrev pub place_given : Result Vec3 Refusal → List Float → List Float
+place_given (Ok v) out = v.x ∷ v.y ∷ v.z ∷ []
+place_given (Err r) out = out
+
+pub record Gives (p : Result Vec3 Refusal) (out out' : List Float) (r : ℕ) : Type 0 where
+  pub number : r ≡ number_given p
+  pub place : out' ≡ place_given p out

@@ -6,22 +6,20 @@ ghost use Rattle.geodetic.specs.Ellipsoid.{wgs84_to_ecef_of};
 ghost use Rattle.geodetic.specs.Line.{read_position_of};
 ghost use Rattle.exports_geodetic.specs.Written.{Gives};
 
-use geodetic::Position;
+use frame::Vec3;
+use refusal::Refusal;
 
-// The number of an answer that is not refused.
-const TAKEN: u32 = 0;
-
-// Puts an answer's place into `out`, and gives its refusal.
-fn put(p: Position, out: &mut [f64; 3]) -> u32
+// Puts an answer's place into `out`, and gives the number of its refusal, or 0.
+fn put(p: Result<Vec3, Refusal>, out: &mut [f64; 3]) -> u32
     ensures { Gives p out.old out.new result }
 {
-    let n = p.refusal;
-    if n != TAKEN {
-        return n;
+    match p {
+        Ok(v) => {
+            *out = [v.x, v.y, v.z];
+            0
+        }
+        Err(r) => r.number(),
     }
-    let v = p.ecef;
-    *out = [v.x, v.y, v.z];
-    0
 }
 
 #[unsafe(no_mangle)]
