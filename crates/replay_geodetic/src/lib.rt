@@ -4,18 +4,17 @@
 ghost use Rattle.text.specs.Text.{bytes};
 ghost use Rattle.answer_lines.specs.Lines.{OnlyWords};
 
-use geodetic::Position;
+use frame::Vec3;
+use refusal::Refusal;
 
-fn same(answer: &[u8], p: Position) -> bool {
-    let refusal = p.refusal;
-    if !answer_lines::refused(answer, refusal) {
-        return false;
+fn same(answer: &[u8], p: Result<Vec3, Refusal>) -> bool {
+    match p {
+        Ok(v) => {
+            answer_lines::refused(answer, 0)
+                && answer_lines::floats_are(answer_lines::from(answer, 1), &[v.x, v.y, v.z])
+        }
+        Err(r) => answer_lines::refused(answer, r.number()),
     }
-    if refusal != 0 {
-        return true;
-    }
-    let v = p.ecef;
-    answer_lines::floats_are(answer_lines::from(answer, 1), &[v.x, v.y, v.z])
 }
 
 fn wgs84(asked: &[u8], answer: &[u8]) -> bool {
