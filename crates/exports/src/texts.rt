@@ -6,10 +6,11 @@ ghost use Rattle.decimal.specs.Fixed as Fixed;
 ghost use Rattle.rfc3339.specs.Rfc3339.{date_time_of};
 ghost use Rattle.exports.specs.Texts.{number_refusal, number_taken, number_value, is_time, time_seconds, time_nanos};
 
-use decimal::read::Number;
-use rfc3339::Timestamp;
+use decimal::read::NumberError;
+use refusal::Refusal;
 
 // `taken` becomes 1 for a number, which goes to `out`, and 0 for what Rust takes for none.
+#[tactic(auto, unfolding(crate::specs::Texts::number_refusal, crate::specs::Texts::number_taken, crate::specs::Texts::number_value))]
 #[unsafe(no_mangle)]
 pub extern "C" fn wisvalom_parse(text: &[u8], taken: &mut u32, out: &mut f64) -> u32
     ensures value { result ≡ number_refusal (Read.number text.now) }
@@ -18,16 +19,16 @@ pub extern "C" fn wisvalom_parse(text: &[u8], taken: &mut u32, out: &mut f64) ->
 {
     let answer = decimal::read::parse(text);
     match answer {
-        Number::Nothing => {
-            *taken = 0;
-            0
-        }
-        Number::Value(x) => {
+        Ok(x) => {
             *taken = 1;
             *out = x;
             0
         }
-        Number::Refused => refusal::NUMBER_SIZE,
+        Err(NumberError::NotANumber) => {
+            *taken = 0;
+            0
+        }
+        Err(NumberError::TooLong) => Refusal::NumberSize.number(),
     }
 }
 
@@ -48,6 +49,7 @@ pub extern "C" fn wisvalom_put_fixed(
 }
 
 // Seconds from a day before the year 0000, and nanoseconds.
+#[tactic(auto, unfolding(crate::specs::Texts::is_time, crate::specs::Texts::time_seconds, crate::specs::Texts::time_nanos))]
 #[unsafe(no_mangle)]
 pub extern "C" fn wisvalom_parse_from_rfc3339(
     text: &[u8],
@@ -60,10 +62,10 @@ pub extern "C" fn wisvalom_parse_from_rfc3339(
 {
     let answer = rfc3339::parse_from_rfc3339(text);
     match answer {
-        Timestamp::Nothing => false,
-        Timestamp::At(s, n) => {
-            *seconds = s;
-            *nanos = n;
+        None => false,
+        Some(t) => {
+            *seconds = t.seconds;
+            *nanos = t.nanos;
             true
         }
     }
