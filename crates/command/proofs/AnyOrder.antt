@@ -1,13 +1,14 @@
 -- The words' order does not change what is fitted: files whose first moments differ give the same pass set by time, and the same
 -- name, in whatever order they come. Assumes nothing.
-use Rattle.std.proofs.Common.{◌≡◌, ℕ, suc, List, [], ◌∷◌, map, length, ℤ, sym, refl, ap, ◌∙◌, subst, ap₂}
+use Rattle.std.proofs.Common.{◌≡◌, ℕ, suc, List, [], ◌∷◌, map, length, ℤ, sym, refl, ap, ◌∙◌, subst, ap₂, Result, Ok, Err}
 use mathlib.Core.List.{flat_map, Permᴰ}
 use lib.Ieee.{Float}
 use Rattle.passes.specs.Text.{Placed, lines}
 use Rattle.passes.specs.Line.{line_of}
 use Rattle.passes.specs.File.{scanned, times_of, freqs_of, time_before, freq_before}
 use Rattle.passes.specs.declared.line.Line.{Line}
-use Rattle.passes.specs.declared.line.Line.TheVariants.{Skipped, Refusal, Name, Center, Sample}
+use Rattle.passes.specs.declared.line.Line.TheVariants.{Skipped, Name, Center, Sample}
+use Rattle.refusal.specs.declared.Refusal.{Refusal}
 use Rattle.passes.proofs.Files.{counted}
 use Rattle.ordering.specs.Sort.{Unlike, pick}
 use Rattle.ordering.specs.Order.{PassSet, pass_set, in_time}
@@ -32,12 +33,12 @@ moved (Permᴰ.swap e f) (Accepted.also h (Accepted.also k a)) =
 moved (Permᴰ.trans p q) a = moved q (moved p a)
 
 -- a frequency for each time
-pair : (l : Line) (ts : List ℤ) (fs : List Float) → length fs ≡ length ts → length (freq_before l fs) ≡ length (time_before l ts)
-pair Skipped ts fs e = e
-pair (Refusal k) ts fs e = e
-pair (Name a b) ts fs e = e
-pair (Center f) ts fs e = e
-pair (Sample t f) ts fs e = ap suc e
+pair : (l : Result Line Refusal) (ts : List ℤ) (fs : List Float) → length fs ≡ length ts → length (freq_before l fs) ≡ length (time_before l ts)
+pair (Ok Skipped) ts fs e = e
+pair (Err r) ts fs e = e
+pair (Ok (Name n)) ts fs e = e
+pair (Ok (Center f)) ts fs e = e
+pair (Ok (Sample t f)) ts fs e = ap suc e
 
 pairs : (ls : List Placed) → length (freqs_of ls) ≡ length (times_of ls)
 unfolding freqs_of times_of
