@@ -2,17 +2,14 @@
 use mathlib.Core.Path.{◌≡◌, sym, ap, ◌∙◌}
 use mathlib.Core.Bool.{true, false}
 use mathlib.Core.List.{List, [], ◌∷◌, map}
-use Prim.Native.Nat.{ℕ, suc, ◌+◌, ◌-◌, ◌≤◌, ◌<◌}
+use Prim.Native.Nat.{ℕ, suc, ◌+◌, ◌≤◌, ◌<◌}
 use native.Mathlib.Omega.{arith}
 use lib.ListN.{length, take, drop, length-map}
 use lib.Seq.{take-length}
 use borrow.Author.Tests.{ne_eqb}
-use Rattle.laws.proofs.Lists.{rest}
 use Rattle.text.specs.Text.{code}
 use Rattle.passes.specs.Text.{until}
-use Rattle.std.proofs.Common.{Result, Err}
-use Rattle.frame.specs.declared.Vec3.{Vec3}
-use Rattle.refusal.specs.declared.Refusal.{Refusal}
+use Rattle.std.proofs.Common.{Err}
 use Rattle.refusal.specs.declared.Refusal.TheVariants.{NumberSize, PositionRange}
 use Rattle.decimal.specs.Read.{Number, number}
 use Rattle.geodetic.specs.Ellipsoid.{wgs84_to_ecef_of}
@@ -36,21 +33,14 @@ three_taken a b c h = simp h
 
 -- ---- the numbers of a line's fields, where its first comma stands at k, or k is its length
 module _ (l : List ℕ) (k : ℕ) (e : k ≡ until (code ",") l) (b : k ≤ length l) where
-  only : k ≡ length l → map number (fields_of l) ≡ number l ∷ []
+  pub only : k ≡ length l → map number (fields_of l) ≡ number l ∷ []
   only h = ap (map number) (fields_one l (sym e ∙ h))
 
-  next : (k ≡ length l → ⊥) → map number (fields_of l) ≡ number (take k l) ∷ map number (fields_of (drop (k + 1) l))
+  pub next : (k ≡ length l → ⊥) → map number (fields_of l) ≡ number (take k l) ∷ map number (fields_of (drop (k + 1) l))
   next h =
       let z : until (code ",") l < length l = omega arith in
       let y : suc (until (code ",") l) ≡ k + 1 = omega arith in
       ap (map number) (fields_more l z) ∙ (λ j. number (take (sym e j) l) ∷ map number (fields_of (drop (y j) l)))
-
-  -- one field, and two
-  pub no_second : k ≡ length l → Err PositionRange ≡ from_numbers (map number (fields_of l))
-  no_second h = not_three (number l ∷ []) (λ (z : ◌≡◌ {A = ℕ} 1 3). omega arith) ∙ sym (ap from_numbers (only h))
-
-  pub no_third : (lat : Number) → k ≡ length l → Err PositionRange ≡ from_numbers (lat ∷ map number (fields_of l))
-  no_third lat h = not_three (lat ∷ number l ∷ []) (λ (z : ◌≡◌ {A = ℕ} 2 3). omega arith) ∙ sym (ap (λ (ns : List Number). from_numbers (lat ∷ ns)) (only h))
 
   -- three, and more
   pub third_is : {p : Number} (lat lon : Number) → p ≡ number (take k l) → k ≡ length l → from_numbers (lat ∷ lon ∷ p ∷ []) ≡ from_numbers (lat ∷ lon ∷ map number (fields_of l))
@@ -65,8 +55,3 @@ module _ (l : List ℕ) (k : ℕ) (e : k ≡ until (code ",") l) (b : k ≤ leng
       let o = fields_some (drop (k + 1) l) in
       not_three (lat ∷ lon ∷ number (take k l) ∷ m) (λ (z : length (lat ∷ lon ∷ number (take k l) ∷ m) ≡ 3). omega arith)
       ∙ sym (ap (λ (ns : List Number). from_numbers (lat ∷ lon ∷ ns)) (next h))
-
-  -- the field up to the comma goes to f with those behind it
-  pub further : (f : List Number → Result Vec3 Refusal) {r : Result Vec3 Refusal} {p : Number} → r ≡ f (p ∷ map number (fields_of (take (length l - (k + 1)) (drop (k + 1) l)))) → p ≡ number (take k l)
-      → (k ≡ length l → ⊥) → r ≡ f (map number (fields_of l))
-  further f g q h = g ∙ (λ j. f (q j ∷ map number (fields_of (rest l (k + 1) j)))) ∙ sym (ap f (next h))

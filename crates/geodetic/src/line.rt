@@ -1,5 +1,7 @@
 // A position line: latitude, longitude and height with commas between them.
 ghost use Rattle.std.specs.Prelude.{◌≡◌, [], ◌∷◌, map};
+ghost use Rattle.std.specs.Result.{MatchResult};
+ghost use Rattle.refusal.specs.declared.Refusal.TheVariants.{PositionRange};
 ghost use Rattle.decimal.specs.Read.{number};
 ghost use Rattle.geodetic.specs.Line as Spec;
 
@@ -67,47 +69,30 @@ fn place(
     super::wgs84_to_ecef(value(lat), value(lon), value(alt))
 }
 
-// A field as it stands: a blank in it belongs to it.
-fn field(l: &[u8]) -> Result<f64, NumberError>
-    ensures { result ≡ number l.now }
-{
-    read::parse(l)
-}
-
-// Behind the second comma stands the height, and no comma more.
-fn third(
-    lat: Result<f64, NumberError>,
-    lon: Result<f64, NumberError>,
-    l: &[u8],
-) -> Result<Vec3, Refusal>
-    ensures { result ≡ Spec.from_numbers (lat ∷ lon ∷ map number (Spec.fields_of l.now)) }
+// The number before the first comma, and what stands behind it. A field stands as it is: a blank in it belongs to it.
+fn field(l: &[u8]) -> Result<(Result<f64, NumberError>, &[u8]), Refusal>
+    ensures { MatchResult result (λ p. map number (Spec.fields_of l.now) ≡ (p.0 ∷ map number (Spec.fields_of p.1.now)))
+        (λ r. (r ≡ PositionRange) × (map number (Spec.fields_of l.now) ≡ (number l.now ∷ []))) }
 {
     let k = pieces::until(b',', l);
-    let end = l.len();
+    if k == l.len() {
+        return Err(Refusal::PositionRange);
+    }
+    Ok((read::parse(&l[..k]), &l[k + 1..]))
+}
+
+// Three numbers with commas between them, and no comma more.
+fn fields(l: &[u8]) -> Result<Vec3, Refusal>
+    ensures { result ≡ Spec.from_numbers (map number (Spec.fields_of l.now)) }
+{
+    let (lat, behind) = field(l)?;
+    let (lon, alt) = field(behind)?;
+    let k = pieces::until(b',', alt);
+    let end = alt.len();
     if k != end {
         return Err(Refusal::PositionRange);
     }
-    place(lat, lon, field(&l[..k]))
-}
-
-fn second(lat: Result<f64, NumberError>, l: &[u8]) -> Result<Vec3, Refusal>
-    ensures { result ≡ Spec.from_numbers (lat ∷ map number (Spec.fields_of l.now)) }
-{
-    let k = pieces::until(b',', l);
-    if k == l.len() {
-        return Err(Refusal::PositionRange);
-    }
-    third(lat, field(&l[..k]), &l[k + 1..])
-}
-
-fn first(l: &[u8]) -> Result<Vec3, Refusal>
-    ensures { result ≡ Spec.from_numbers (map number (Spec.fields_of l.now)) }
-{
-    let k = pieces::until(b',', l);
-    if k == l.len() {
-        return Err(Refusal::PositionRange);
-    }
-    second(field(&l[..k]), &l[k + 1..])
+    place(lat, lon, read::parse(&alt[..k]))
 }
 
 // The place that a line says: three numbers, the blanks at the line's ends trimmed and those beside commas not.
@@ -122,5 +107,5 @@ pub fn read_position(line: &[u8]) -> Result<Vec3, Refusal>
         return Err(Refusal::LongLine);
     }
     let p = pieces::trim(line);
-    first(&line[p.start..p.end])
+    fields(&line[p.start..p.end])
 }
