@@ -2,13 +2,9 @@
 use mathlib.Core.Path.{◌≡◌}
 use lib.ListN.{length}
 use Rattle.loops.specs.Loop.{rev}
-use Prim.Native.Nat.{◌≤◌}
 use Rattle.loops.proofs.Laws.{Down}
 use Rattle.linear.specs.Elimination.{substitute_row}
 use Rattle.linear.proofs.back_substitution.Given as goal
 
 abbrev pub invariant-loop-r : goal.invariant-loop-r
-invariant-loop-r l = (l.r ≤ l.n) × (length l.sol ≡ l.n) × Down l.r (substitute_row l.n l.a) l.sol (rev l.n (substitute_row l.n l.a) l.initial.sol)
-
-abbrev pub decreases-loop-r : goal.decreases-loop-r
-decreases-loop-r l = l.r
+invariant-loop-r l = (length l.sol ≡ l.n) × Down l.r (substitute_row l.n l.a) l.sol (rev l.n (substitute_row l.n l.a) l.initial.sol)

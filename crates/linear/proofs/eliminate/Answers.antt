@@ -1,15 +1,16 @@
 -- `eliminate` meets its contract. Assumes nothing.
 use Rattle.float.specs.Ops.{bits}
 use mathlib.Core.Path.{◌≡◌}
-use mathlib.Core.Bool.{Bool, true, false}
 use mathlib.Core.List.{List}
 use Prim.Native.Nat.{ℕ}
 use lib.ListN.{length, replicate}
 use lib.Ieee.{Float}
-use Rattle.loops.specs.Loop.{for, rev, Made, Settled}
+use Rattle.std.proofs.Common.{Ok, Err}
+use Rattle.std.proofs.lemmas.Result.{err_from_is_err_and}
+use Rattle.loops.specs.Loop.{for, rev}
+use Rattle.refusal.specs.declared.Refusal.{Refusal}
 use Rattle.linear.specs.Elimination.{Sized, forward_elimination, substitute_row, back_substitution, augment_row, augmented, solution_of}
-use borrow.Author.Tests.{not-true, not-false}
-use borrow.Author.Rules.{rules}
+use Rattle.linear.specs.Answer.{Reduces, Eliminates}
 use Rattle.linear.proofs.eliminate.Goals as goal
 
 -- What the calls ensure: the room a is cleared to z, loaded to l and eliminated to f, or refused; the solution's s is cleared to s₁ and worked out, s₂.
@@ -18,19 +19,23 @@ module _ (n : ℕ) (m v a z l f s : List Float) (sized : Sized n a) (ez : z ≡ 
   unfolding augmented
   loaded = rw (el, ez, sized.full)
 
-  singular : (ok : Bool) → ok ≡ false → Made ok f (forward_elimination n l) → Settled false s s (solution_of n m v)
+  singular : (e : Refusal) → Reduces (Err e) f (forward_elimination n l) → Eliminates (Err e) s s (solution_of n m v)
   unfolding solution_of
-  singular ok e p = let q = rw e at p.made in record { said = rw (loaded, ← q); held = rw (loaded, ← q) }
+  singular e r =
+      let q = r.left.made in
+      record { answer = rw (loaded, ← q) (rw (← q) at r.answer); left = record { said = rw (loaded, ← q); held = rw (loaded, ← q) } }
 
-  found : (s₁ s₂ : List Float) (ok : Bool) → ok ≡ true → Made ok f (forward_elimination n l) → length s ≡ n → s₁ ≡ replicate (length s) (bits 0) → s₂ ≡ rev n (substitute_row n f) s₁
-      → Settled true s s₂ (solution_of n m v)
+  found : (s₁ s₂ : List Float) (u : Unit {0}) → Reduces (Ok u) f (forward_elimination n l) → length s ≡ n → s₁ ≡ replicate (length s) (bits 0) → s₂ ≡ rev n (substitute_row n f) s₁
+      → Eliminates (Ok tt) s s₂ (solution_of n m v)
   unfolding solution_of back_substitution
-  found s₁ s₂ ok e p len e₁ e₂ =
-      let q = rw e at p.made in
-      record { said = rw (loaded, ← q); held = rw (loaded, ← q, e₂, e₁, len) }
+  found s₁ s₂ u r len e₁ e₂ =
+      let q = r.left.made in
+      record { answer = rw (loaded, ← q); left = record { said = rw (loaded, ← q); held = rw (loaded, ← q, e₂, e₁, len) } }
 
-pub returns-then-not-forward_elimination : goal.returns-then-not-forward_elimination
-returns-then-not-forward_elimination c = search (rules, singular, not-true)
+pub returns-in_err-forward_elimination : goal.returns-in_err-forward_elimination
+returns-in_err-forward_elimination c =
+    let p = err_from_is_err_and c.from_residual.result c.from_residual.ensures.1 in
+    rw (p.1, p.2) (singular _ _ _ _ _ _ _ _ c.requires.0 c.clear.ensures c.augment.ensures _ c.in_err-forward_elimination.ensures)
 
 pub returns : goal.returns
-returns c = search (rules, found, not-false)
+returns c = found _ _ _ _ _ _ _ _ c.requires.0 c.clear.ensures c.augment.ensures _ _ _ c.in_ok-forward_elimination.ensures c.requires.3 c.clear-2.ensures c.back_substitution.ensures

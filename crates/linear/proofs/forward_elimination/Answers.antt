@@ -1,40 +1,25 @@
 -- `forward_elimination` meets its contract. Assumes nothing.
-use Rattle.loops.proofs.Laws.{loops}
+use mathlib.Core.Path.{refl}
+use Rattle.std.proofs.lemmas.Result.{err_from_is_err_and}
+use Rattle.loops.proofs.Laws.{again_try, ends_try, loops}
 use Rattle.linear.specs.Elimination.{forward_elimination}
+use Rattle.linear.proofs.Places.{resized}
+use Rattle.linear.proofs.Steps.{reduced, stopped}
 use Rattle.linear.proofs.forward_elimination.Goals as goal
 
 pub loop-i-init : goal.loop-i-init
 unfolding forward_elimination
 loop-i-init c = search loops
 
-pub reduce_column-requires : goal.reduce_column-requires
-unfolding forward_elimination
-reduce_column-requires c = search loops
-
-pub shape_of-a-then-not-reduce_column : goal.shape_of-a-then-not-reduce_column
-unfolding forward_elimination
-shape_of-a-then-not-reduce_column c = search loops
-
-pub returns-then-not-reduce_column : goal.returns-then-not-reduce_column
-unfolding forward_elimination
-returns-then-not-reduce_column c = search loops
-
-pub overflow_step-i : goal.overflow_step-i
-unfolding forward_elimination
-overflow_step-i c = search loops
-
-pub loop-i-smaller : goal.loop-i-smaller
-unfolding forward_elimination
-loop-i-smaller c = search loops
+pub returns-in_err-reduce_column : goal.returns-in_err-reduce_column
+returns-in_err-reduce_column c =
+    let p = err_from_is_err_and c.from_residual.result c.from_residual.ensures.1 in
+    rw (p.1, p.2) (stopped c.loop-i-test.true c.loop-i.invariant.1 c.in_err-reduce_column.ensures)
 
 pub loop-i-preserved : goal.loop-i-preserved
-unfolding forward_elimination
-loop-i-preserved c = search loops
-
-pub shape_of-a : goal.shape_of-a
-unfolding forward_elimination
-shape_of-a c = search loops
+loop-i-preserved c =
+    let r = c.in_ok-reduce_column.ensures in
+    (resized c.loop-i.invariant.0 c.reduce_column.auto.a, again_try c.loop-i-test.true c.loop-i.invariant.1 r.left refl)
 
 pub returns : goal.returns
-unfolding forward_elimination
-returns c = search loops
+returns c = reduced (ends_try c.loop-i-test.false c.loop-i.invariant.1)

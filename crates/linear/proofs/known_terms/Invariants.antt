@@ -1,13 +1,10 @@
 -- `known_terms` meets its contract. Assumes nothing.
 use Rattle.float.specs.Ops.{bits}
 use Rattle.loops.specs.Loop.{for}
-use Prim.Native.Nat.{◌+◌, ◌-◌, ◌≤◌}
+use Prim.Native.Nat.{◌+◌}
 use Rattle.loops.proofs.Laws.{Left}
 use Rattle.linear.specs.Elimination.{add_term}
 use Rattle.linear.proofs.known_terms.Given as goal
 
 abbrev pub invariant-loop-c : goal.invariant-loop-c
-invariant-loop-c l = (l.c ≤ l.n) × Left l.c l.n (add_term l.n l.a l.sol l.r) l.s (for (l.r + 1) l.n (add_term l.n l.a l.sol l.r) (bits 0))
-
-abbrev pub decreases-loop-c : goal.decreases-loop-c
-decreases-loop-c l = l.n - l.c
+invariant-loop-c l = Left l.c l.n (add_term l.n l.a l.sol l.r) l.s (for (l.r + 1) l.n (add_term l.n l.a l.sol l.r) (bits 0))

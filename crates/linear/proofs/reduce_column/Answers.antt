@@ -1,14 +1,17 @@
 -- `reduce_column` meets its contract. Assumes nothing.
 use Rattle.linear.specs.Elimination.{least_pivot_bits, cell_of, pivot_row, swap_rows, eliminate_below, reduce_column}
 use borrow.Author.Rules.{rules}
-use Rattle.loops.specs.Loop.{Made}
 use mathlib.Core.Path.{◌≡◌}
 use mathlib.Core.Bool.{true, false, cond}
 use mathlib.Core.Option.{none, some}
+use Rattle.std.proofs.Common.{Ok, Err}
 use Rattle.float.specs.Ops.{bits, abs_of, at}
 use mathlib.Core.List.{List}
 use lib.Ieee.{Float, lt}
 use Prim.Native.Nat.{ℕ}
+use Rattle.refusal.specs.declared.Refusal.TheVariants.{SmallPivot}
+use Rattle.linear.specs.Answer.{Reduces}
+use Rattle.linear.proofs.Steps.{reduced, too_small}
 use Rattle.linear.proofs.reduce_column.Goals as goal
 
 -- what the calls ensure: m is the pivot's row, p the matrix with it brought up, k the pivot's place and x its size
@@ -17,14 +20,14 @@ module _ (n i m k : ℕ) (a p : List Float) (x : Float) (em : m ≡ pivot_row n 
   unfolding reduce_column
   tested = rw (least_pivot_bits, ex, ek, ep, em)
 
-  too_small : lt x (bits 0x3d719799812dea11) ≡ true → Made false p (reduce_column n i a)
-  too_small e = record { made = rw (tested, e) }
+  refused : lt x (bits 0x3d719799812dea11) ≡ true → Reduces (Err SmallPivot) p (reduce_column n i a)
+  refused e = too_small (record { made = rw (tested, e) })
 
-  cleared : (q : List Float) → lt x (bits 0x3d719799812dea11) ≡ false → q ≡ eliminate_below n i p → Made true q (reduce_column n i a)
-  cleared q e eq = record { made = rw (tested, e, eq) }
+  cleared : (q : List Float) → lt x (bits 0x3d719799812dea11) ≡ false → q ≡ eliminate_below n i p → Reduces (Ok tt) q (reduce_column n i a)
+  cleared q e eq = reduced (record { made = rw (tested, e, eq) })
 
 pub returns-then-abs : goal.returns-then-abs
-returns-then-abs c = search (rules, too_small)
+returns-then-abs c = search (rules, refused)
 
 pub returns : goal.returns
 returns c = search (rules, cleared)

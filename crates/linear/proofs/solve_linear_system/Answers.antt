@@ -1,43 +1,25 @@
 -- `solve_linear_system` meets its contract. Assumes nothing.
-use mathlib.Core.Path.{sym}
-use lib.Seq.{length-take-le}
-use native.Mathlib.Omega.{arith}
-use Rattle.linear.proofs.Answers.{vector_off, matrix_off, too_many, out_short, scratch_short, solved, singular, beyond, square_fits}
+use Rattle.linear.proofs.Answers.{vector_off, matrix_off, too_many, out_short, scratch_short, ended, is_square, no_square}
 use borrow.Author.Rules.{rules}
+use Rattle.linear.proofs.solve_linear_system.Goals.{then-vector-n-via-then-vector-n, then-vector-n-via-else-vector-n+then-ne, then-out-n-via-then-out-n, then-out-n-via-else-out-n+then-scratch-room}
 use Rattle.linear.proofs.solve_linear_system.Goals as goal
 
 pub returns-then-vector-n : goal.returns-then-vector-n
-returns-then-vector-n c = search (rules, vector_off)
-
-pub returns-then-n-gt4294967295 : goal.returns-then-n-gt4294967295
-returns-then-n-gt4294967295 c = search (rules, matrix_off, beyond)
-
-pub overflow_mul-n : goal.overflow_mul-n
-overflow_mul-n c = omega (arith, square_fits _ c.if-n-gt4294967295.false)
-
-pub returns-then-matrix-n : goal.returns-then-matrix-n
-returns-then-matrix-n c = search (rules, matrix_off)
+returns-then-vector-n c =
+    elim c.then-vector-n.branch [
+      | then-vector-n-via-then-vector-n w ↦ search (rules, vector_off)
+      | then-vector-n-via-else-vector-n+then-ne w ↦ search (rules, matrix_off, no_square)
+    ]
 
 pub returns-then-n-gt68 : goal.returns-then-n-gt68
-returns-then-n-gt68 c = search (rules, too_many)
+returns-then-n-gt68 c = search (rules, too_many, is_square)
 
 pub returns-then-out-n : goal.returns-then-out-n
-returns-then-out-n c = search (rules, out_short)
+returns-then-out-n c =
+    elim c.then-out-n.branch [
+      | then-out-n-via-then-out-n w ↦ search (rules, out_short, is_square)
+      | then-out-n-via-else-out-n+then-scratch-room w ↦ search (rules, scratch_short, is_square)
+    ]
 
-pub returns-then-scratch-room : goal.returns-then-scratch-room
-returns-then-scratch-room c = search (rules, scratch_short)
-
-pub slice_bounds-eliminate-end-2 : goal.slice_bounds-eliminate-end-2
-slice_bounds-eliminate-end-2 c = sym (length-take-le _ _ (omega arith))
-
-pub slice_bounds-eliminate-end-4 : goal.slice_bounds-eliminate-end-4
-slice_bounds-eliminate-end-4 c = sym (length-take-le _ _ (omega arith))
-
-pub eliminate-ok-requires : goal.eliminate-ok-requires
-eliminate-ok-requires c = (record { small = omega arith; full = length-take-le _ _ (omega arith) }, omega arith, omega arith, length-take-le _ _ (omega arith))
-
-pub returns-then-ok : goal.returns-then-ok
-returns-then-ok c = search (rules, solved)
-
-pub returns-else-ok : goal.returns-else-ok
-returns-else-ok c = search (rules, singular)
+pub returns : goal.returns
+returns c = search (rules, ended, is_square)
