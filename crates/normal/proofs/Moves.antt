@@ -10,11 +10,13 @@ use lib.Seq.{drop-length}
 use lib.Ieee.{Float}
 use Rattle.float.specs.Ops.{at}
 use Rattle.loops.specs.Loop.{is_some}
+use Rattle.std.proofs.Common.{Some, None, Result, Ok, Err}
 use Rattle.refusal.specs.Numbers as refusal
+use Rattle.refusal.specs.Refusals.{answer}
+use Rattle.refusal.specs.declared.Refusal.{Refusal}
+use Rattle.refusal.specs.declared.Refusal.TheVariants.{SmallPivot}
 use Rattle.linear.specs.Elimination.{solution_of}
-use Rattle.linear.specs.Answer.{Solves, answer_of, out_of}
-use Rattle.linear.specs.declared.Solution.{Solution}
-use Rattle.linear.specs.declared.Solution.TheVariants.{Found, Refused}
+use Rattle.linear.specs.Answer.{Solves, out_of}
 use Rattle.linear.proofs.Answers.{worked}
 use Rattle.normal.specs.Normal.{Grid, table_entry, jtj_of, jtr_of}
 use Rattle.normal.specs.Step.{Outcome, next, refused, damped, scales, scaled, divided, subtracted, held, largest_step, stepped_by, finish, solve_step, damped_step}
@@ -23,35 +25,35 @@ use Rattle.normal.specs.Step.{Outcome, next, refused, damped, scales, scaled, di
 pub taken : (n : ℕ) (delta x x₁ x₂ : List Float) (size : Float) → x₁ ≡ subtracted n delta x → x₂ ≡ held x₁ → size ≡ largest_step n x₂ delta → next x₂ size ≡ stepped_by n x delta
 taken n delta x x₁ x₂ size e₁ e₂ es = rw (es, e₂, e₁)
 
-module _ (n : ℕ) (a v o o' s s' : List Float) (r : Solution) (grid : Grid n n a) (ev : length v ≡ n) (eo : length o ≡ n) (room : n * (n + 1) ≤ length s)
+module _ (n : ℕ) (a v o o' s s' : List Float) (r : Result (Unit {0}) Refusal) (grid : Grid n n a) (ev : length v ≡ n) (eo : length o ≡ n) (room : n * (n + 1) ≤ length s)
     (solves : Solves n a v o o' s s' r) where
-  answered : r ≡ answer_of (cond (is_some (solution_of n a v)) 0 refusal.small_pivot)
+  answered : r ≡ answer (cond (is_some (solution_of n a v)) None (Some SmallPivot)) tt
   answered = rw (worked n a v o s ev grid.full grid.narrow (omega arith) room) at solves.answer
 
-  written : o' ≡ out_of (cond (is_some (solution_of n a v)) 0 refusal.small_pivot) (solution_of n a v) n o
+  written : o' ≡ out_of (cond (is_some (solution_of n a v)) None (Some SmallPivot)) (solution_of n a v) n o
   written = rw (worked n a v o s ev grid.full grid.narrow (omega arith) room) at solves.out
 
   -- nothing of o is left behind the solution
-  found : r ≡ Found → solution_of n a v ≡ some o'
+  found : r ≡ Ok tt → solution_of n a v ≡ some o'
   found e = go (solution_of n a v) answered written
     where
-      go : (t : Option (List Float)) → r ≡ answer_of (cond (is_some t) 0 refusal.small_pivot) → o' ≡ out_of (cond (is_some t) 0 refusal.small_pivot) t n o → t ≡ some o'
+      go : (t : Option (List Float)) → r ≡ answer (cond (is_some t) None (Some SmallPivot)) tt → o' ≡ out_of (cond (is_some t) None (Some SmallPivot)) t n o → t ≡ some o'
       go none q p = cc
       go (some y) q p = ap some (sym (p ∙ ap (y ++◌) (ap (λ (j : ℕ). drop j o) (sym eo) ∙ drop-length o) ∙ append-nil y))
 
-  pub no_pivot : (second : Bool) (f x : List Float) (k : ℕ) → r ≡ Refused k → refused refusal.small_pivot ≡ finish second n f x (solution_of n a v)
+  pub no_pivot : (second : Bool) (f x : List Float) (e : Refusal) → r ≡ Err e → refused refusal.small_pivot ≡ finish second n f x (solution_of n a v)
   no_pivot second f x k e = go (solution_of n a v) answered
     where
-      go : (t : Option (List Float)) → r ≡ answer_of (cond (is_some t) 0 refusal.small_pivot) → refused refusal.small_pivot ≡ finish second n f x t
+      go : (t : Option (List Float)) → r ≡ answer (cond (is_some t) None (Some SmallPivot)) tt → refused refusal.small_pivot ≡ finish second n f x t
       go none q = refl
       go (some y) q = cc
 
   -- the new set y, from x by the solution divided by the scales, or by the solution
-  pub moved_scaled : (second : Bool) (f delta x y : List Float) (size : Float) → r ≡ Found → second ≡ true → delta ≡ divided n f o' → next y size ≡ stepped_by n x delta
+  pub moved_scaled : (second : Bool) (f delta x y : List Float) (size : Float) → r ≡ Ok tt → second ≡ true → delta ≡ divided n f o' → next y size ≡ stepped_by n x delta
       → next y size ≡ finish second n f x (solution_of n a v)
   moved_scaled second f delta x y size e es ed em = em ∙ rw (found e, es, ed)
 
-  pub moved_plain : (second : Bool) (f x y : List Float) (size : Float) → r ≡ Found → second ≡ false → next y size ≡ stepped_by n x o' → next y size ≡ finish second n f x (solution_of n a v)
+  pub moved_plain : (second : Bool) (f x y : List Float) (size : Float) → r ≡ Ok tt → second ≡ false → next y size ≡ stepped_by n x o' → next y size ≡ finish second n f x (solution_of n a v)
   moved_plain second f x y size e es em = em ∙ rw (found e, es)
 
 -- the scales f of a, the system a' x = v' divided by them, and what its solution led to

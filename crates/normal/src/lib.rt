@@ -301,7 +301,7 @@ fn move_by(
     requires { Grid n n a.now × (length v.now ≡ n) × (length f.now ≡ n) × (length delta.old ≡ n) × (length x.old ≡ 68) × (4 ≤ n) × (n * (n + 1) ≤ length room.old) }
     ensures { outcome result x.new ≡ finish second n f.now x.old (solution_of n a.now v.now) }
 {
-    let linear::Solution::Found = linear::solve_linear_system(a, v, n, delta, room) else {
+    let Ok(()) = linear::solve_linear_system(a, v, n, delta, room) else {
         return Step::Singular;
     };
     if second {
