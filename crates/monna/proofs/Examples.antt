@@ -1,6 +1,7 @@
 -- Worked examples, by computation: document 01's table of the generator and the digit maps, then inputs at which bits or refusals turn.
 -- Assumes nothing.
-use Rattle.std.proofs.Common.{◌≡◌, [], ◌∷◌, refl}
+use Rattle.std.proofs.Common.{◌≡◌, [], ◌∷◌, Some, None, refl}
+use Rattle.refusal.specs.declared.Refusal.TheVariants.{Limits, ShortMemory}
 use lib.Ieee.{nan, neg, of_bits, round, of_int, to_unsigned, add, sub, mul, div, lt}
 use Rattle.float.specs.Constant.{decimal}
 use Rattle.float.specs.Ops.{bits, one, one_bits, floor_of, raised}
@@ -58,14 +59,14 @@ unfolding differences_of tabulated difference_at for turns with_quotient
 differences_nan = refl
 
 -- bases 1, 2, 7 and 8; 16 and 17 digits; 64 and 65 numbers, and a place too few
-bases : (base_refusal 1 ∷ base_refusal 2 ∷ base_refusal 7 ∷ base_refusal 8 ∷ []) ≡ (12 ∷ 0 ∷ 0 ∷ 12 ∷ [])
+bases : (base_refusal 1 ∷ base_refusal 2 ∷ base_refusal 7 ∷ base_refusal 8 ∷ []) ≡ (Some Limits ∷ None ∷ None ∷ Some Limits ∷ [])
 unfolding base_refusal
 bases = refl
 
-many_digits : (digits_refusal 2 16 ∷ digits_refusal 2 17 ∷ []) ≡ (0 ∷ 12 ∷ [])
+many_digits : (digits_refusal 2 16 ∷ digits_refusal 2 17 ∷ []) ≡ (None ∷ Some Limits ∷ [])
 unfolding digits_refusal
 many_digits = refl
 
-histories : (history_refusal 64 64 ∷ history_refusal 65 0 ∷ history_refusal 2 1 ∷ []) ≡ (0 ∷ 12 ∷ 21 ∷ [])
+histories : (history_refusal 64 64 ∷ history_refusal 65 0 ∷ history_refusal 2 1 ∷ []) ≡ (None ∷ Some Limits ∷ Some ShortMemory ∷ [])
 unfolding history_refusal
 histories = refl

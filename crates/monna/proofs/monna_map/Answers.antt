@@ -1,15 +1,14 @@
 -- `monna_map` meets its contract. Assumes nothing.
-use Rattle.monna.specs.Answers.{monna_map_of, base_refusal}
-use Rattle.monna.proofs.Endings.{base_is}
+use Rattle.std.proofs.lemmas.Result.{err_from_is_err_and}
+use Rattle.monna.specs.Answers.{monna_map_of}
 use Rattle.monna.proofs.monna_map.Goals as goal
 
-pub returns-then-not-is_base : goal.returns-then-not-is_base
-unfolding monna_map_of base_refusal
-returns-then-not-is_base c = simp (← c.is_base.ensures, c.if-not-is_base.true)
-
-pub monna_value-requires : goal.monna_value-requires
-monna_value-requires c = base_is c.is_base.ensures c.if-not-is_base.false
+pub returns-in_err-base : goal.returns-in_err-base
+unfolding monna_map_of
+returns-in_err-base c =
+    let p = err_from_is_err_and c.from_residual.result c.from_residual.ensures.1 in
+    rw (p.1, p.2, c.in_err-base.ensures)
 
 pub returns : goal.returns
-unfolding monna_map_of base_refusal
-returns c = simp (← c.is_base.ensures, c.if-not-is_base.false, c.monna_value.ensures)
+unfolding monna_map_of
+returns c = simp (c.in_ok-base.ensures.0, c.monna_value.ensures, c.in_ok-base.ensures.1)

@@ -1,5 +1,5 @@
 -- `inner::distance_value` meets its contract. Assumes nothing.
-use Rattle.std.proofs.Common.{ap, arith, eq-eqb, ne_eqb}
+use Rattle.std.proofs.Common.{ap, eq-eqb, ne_eqb}
 use native.Mathlib.Nat.{div-lt_self}
 use Rattle.float.specs.Ops.{◌⊘◌, one, one_bits}
 use Rattle.monna.specs.Digits.{distance_of}
@@ -11,19 +11,15 @@ unfolding distance_of
 returns-then-a-b c = rw (eq-eqb _ _ c.if-a-b.true)
 
 pub loop-diff-init : goal.loop-diff-init
-loop-diff-init c = (rw c.gap_of-diff.ensures (gap_pos _ _ c.if-a-b.false), record { gives = rw (c.gap_of-diff.ensures, c.nearest_u64_to_f64-q.ensures, one_bits) })
-
-pub nonzero_rem-diff : goal.nonzero_rem-diff
-nonzero_rem-diff c = omega (arith, c.requires.least)
-
-pub nonzero_div-diff : goal.nonzero_div-diff
-nonzero_div-diff c = omega (arith, c.requires.least)
+loop-diff-init c = (rw c.abs_diff-diff.ensures (gap_pos _ _ c.if-a-b.false), record { gives = rw (c.abs_diff-diff.ensures, c.nearest_u64_to_f64-q.ensures, one_bits) })
 
 pub loop-diff-smaller : goal.loop-diff-smaller
-loop-diff-smaller c = div-lt_self c.loop-diff.invariant.0 c.requires.least
+loop-diff-smaller c = div-lt_self c.loop-diff.invariant.0 c.args.p.least
 
 pub loop-diff-preserved : goal.loop-diff-preserved
-loop-diff-preserved c = (still _ _ c.loop-diff-test.true c.loop-diff.invariant.0, count c.requires c.loop-diff.invariant.0 c.loop-diff-test.true c.loop-diff.invariant.1)
+loop-diff-preserved c =
+    let counts = count (record { least = c.args.p.least; greatest = c.args.p.greatest }) c.loop-diff.invariant.0 c.loop-diff-test.true c.loop-diff.invariant.1 in
+    (still _ _ c.loop-diff-test.true c.loop-diff.invariant.0, counts)
 
 pub returns : goal.returns
 unfolding distance_of

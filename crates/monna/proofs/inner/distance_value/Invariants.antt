@@ -6,7 +6,7 @@ use Rattle.monna.proofs.Digits.{Counting}
 use Rattle.monna.proofs.inner.distance_value.Given as goal
 
 abbrev pub invariant-loop-diff : goal.invariant-loop-diff
-invariant-loop-diff l = (0 < l.diff) × Counting l.p l.diff l.q l.power (raised (of_nat l.p) (valuation l.p (gap l.a l.b)) one)
+invariant-loop-diff l = (0 < l.diff) × Counting l.p.value l.diff l.q l.power (raised (of_nat l.p.value) (valuation l.p.value (gap l.a l.b)) one)
 
 abbrev pub decreases-loop-diff : goal.decreases-loop-diff
 decreases-loop-diff l = l.diff

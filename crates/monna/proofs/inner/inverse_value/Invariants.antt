@@ -4,8 +4,5 @@ use Rattle.monna.proofs.Digits.{Taking}
 use Rattle.monna.specs.Digits.{inverse_of}
 use Rattle.monna.proofs.inner.inverse_value.Given as goal
 
-abbrev pub invariant-loop-i : goal.invariant-loop-i
-invariant-loop-i l = (l.i ≤ l.precision) × (l.factor ≡ l.p ^ l.i) × (l.val ≤ l.i * 199397583417606) × Taking (l.precision - l.i) l.p l.rest l.factor l.val (inverse_of l.x l.p l.precision)
-
-abbrev pub decreases-loop-i : goal.decreases-loop-i
-decreases-loop-i l = l.precision - l.i
+abbrev pub invariant-loop : goal.invariant-loop
+invariant-loop l = (l.factor ≡ l.p.value ^ l.counter) × (l.val ≤ l.counter * 199397583417606) × Taking (l.precision - l.counter) l.p.value l.rest l.factor l.val (inverse_of l.x l.p.value l.precision)

@@ -1,5 +1,4 @@
 -- `inner::monna_value` meets its contract. Assumes nothing.
-use Rattle.std.proofs.Common.{arith}
 use native.Mathlib.Nat.{div-lt_self}
 use Rattle.float.specs.Ops.{one_bits}
 use Rattle.monna.specs.Digits.{monna_of}
@@ -10,17 +9,12 @@ pub loop-val-init : goal.loop-val-init
 unfolding monna_of
 loop-val-init c = record { gives = simp (c.nearest_u64_to_f64-q.ensures, one_bits) }
 
-pub nonzero_rem-val : goal.nonzero_rem-val
-nonzero_rem-val c = omega (arith, c.requires.least)
-
-pub nonzero_div-val : goal.nonzero_div-val
-nonzero_div-val c = omega (arith, c.requires.least)
-
 pub loop-val-smaller : goal.loop-val-smaller
-loop-val-smaller c = div-lt_self c.loop-val-test.true c.requires.least
+loop-val-smaller c = div-lt_self c.loop-val-test.true c.args.p.least
 
 pub loop-val-preserved : goal.loop-val-preserved
-loop-val-preserved c = place _ _ _ c.requires c.loop-val-test.true c.nearest_u64_to_f64-q.ensures c.nearest_u64_to_f64.ensures c.loop-val.invariant
+loop-val-preserved c =
+    place _ _ _ (record { least = c.args.p.least; greatest = c.args.p.greatest }) c.loop-val-test.true c.nearest_u64_to_f64-q.ensures c.nearest_u64_to_f64.ensures c.loop-val.invariant
 
 pub returns : goal.returns
 returns c = all_placed _ c.loop-val-test.false c.loop-val.invariant
