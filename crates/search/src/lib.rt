@@ -227,9 +227,10 @@ fn scrambled(angle: f64, p: u64, perturbation: u64) -> f64
     requires { Base p }
     ensures { result ≡ scrambled_of angle p perturbation }
 {
-    let val = monna::inner::inverse_value(angle / (2.0 * float::PI), p, 16);
+    let base = monna::base::Base { value: p };
+    let val = monna::inner::inverse_value(angle / (2.0 * float::PI), base, 16);
     let sum = std::num::wrapping_add_u64(val, perturbation);
-    let x = monna::inner::monna_value(sum, p);
+    let x = monna::inner::monna_value(sum, base);
     float::rem_euclid(x * 2.0 * float::PI, 2.0 * float::PI)
 }
 
