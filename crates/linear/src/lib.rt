@@ -4,7 +4,7 @@
 #![tactic(auto)]
 
 ghost use Rattle.std.specs.Prelude.{◌≡◌, ◌+◌, ◌*◌, ◌<◌, ◌≤◌, length, replicate};
-ghost use Rattle.float.specs.Ops.{bits};
+ghost use Rattle.float.specs.Ops.{bits, at};
 ghost use Rattle.loops.specs.Loop.{for, rev};
 ghost use Rattle.linear.specs.Elimination.{
   Sized,
@@ -25,145 +25,162 @@ ghost use Rattle.linear.specs.Answer.{Solves, Reduces, Eliminates};
 
 use refusal::Refusal;
 
-// Where row r, column c of the augmented matrix is.
-fn cell(n: usize, r: usize, c: usize) -> usize
-    requires { (n ≤ 68) × (r < n) × (c ≤ n) }
-    ensures { (result ≡ cell_of n r c) × (result < n * (n + 1)) }
-{
-    r * (n + 1) + c
+// The augmented matrix: n rows of n + 1 columns, one after the other.
+#[derive(Drop)]
+struct Augmented<'a> {
+    entries: &'a mut [f64],
+    n: usize,
+    ghost sized: { Sized n entries.now },
 }
 
-fn larger_pivot(a: &[f64], n: usize, i: usize, r: usize, m: usize) -> usize
-    requires { Sized n a.now × (i < n) × (r < n) × (m < n) }
-    ensures { (result ≡ larger_pivot n a.now i r m) × (result < n) }
-{
-    let p = cell(n, r, i);
-    let q = cell(n, m, i);
-    if float::abs(a[p]) > float::abs(a[q]) {
-        r
-    } else {
+impl Augmented<'_> {
+    // Where row r, column c is.
+    fn cell(&self, r: usize, c: usize) -> usize
+        requires { (r < self.now.n) × (c ≤ self.now.n) }
+        ensures { (result ≡ cell_of self.now.n r c) × (result < self.now.n * (self.now.n + 1)) }
+    {
+        r * (self.n + 1) + c
+    }
+
+    // The number in row r, column c.
+    fn entry(&self, r: usize, c: usize) -> f64
+        requires { (r < self.now.n) × (c ≤ self.now.n) }
+        ensures { result ≡ at self.now.entries.now (cell_of self.now.n r c) }
+    {
+        self.entries[self.cell(r, c)]
+    }
+
+    fn larger_pivot(&self, i: usize, r: usize, m: usize) -> usize
+        requires { (i < self.now.n) × (r < self.now.n) × (m < self.now.n) }
+        ensures { (result ≡ larger_pivot self.now.n self.now.entries.now i r m) × (result < self.now.n) }
+    {
+        if float::abs(self.entry(r, i)) > float::abs(self.entry(m, i)) {
+            r
+        } else {
+            m
+        }
+    }
+
+    fn pivot_row(&self, i: usize) -> usize
+        requires { i < self.now.n }
+        ensures { (result ≡ pivot_row self.now.n self.now.entries.now i) × (result < self.now.n) }
+    {
+        let mut m = i;
+        for r in i + 1..self.n {
+            m = self.larger_pivot(i, r, m);
+        }
         m
     }
-}
 
-fn pivot_row(a: &[f64], n: usize, i: usize) -> usize
-    requires { Sized n a.now × (i < n) }
-    ensures { (result ≡ pivot_row n a.now i) × (result < n) }
-{
-    let mut m = i;
-    for r in i + 1..n {
-        m = larger_pivot(a, n, i, r, m);
+    fn swap_rows(&mut self, i: usize, m: usize)
+        requires { (i < self.old.n) × (m < self.old.n) }
+        ensures size { self.new.n ≡ self.old.n }
+        ensures after { self.new.entries.now ≡ swap_rows self.old.n i m self.old.entries.now }
+    {
+        for c in 0..self.n + 1 {
+            let p = self.cell(i, c);
+            let q = self.cell(m, c);
+            self.entries.swap(p, q);
+        }
     }
-    m
-}
 
-fn swap_rows(a: &mut [f64], n: usize, i: usize, m: usize)
-    requires { Sized n a.old × (i < n) × (m < n) }
-    ensures { a.new ≡ swap_rows n i m a.old }
-{
-    for c in 0..n + 1 {
-        let p = cell(n, i, c);
-        let q = cell(n, m, c);
-        a.swap(p, q);
+    fn eliminate_row(&mut self, i: usize, r: usize)
+        requires { (i < self.old.n) × (r < self.old.n) }
+        ensures size { self.new.n ≡ self.old.n }
+        ensures after { self.new.entries.now ≡ eliminate_row self.old.n i r self.old.entries.now }
+    {
+        let factor = self.entry(r, i) / self.entry(i, i);
+        for c in i..self.n + 1 {
+            let p = self.cell(r, c);
+            self.entries[p] -= factor * self.entry(i, c);
+        }
     }
-}
 
-fn eliminate_row(a: &mut [f64], n: usize, i: usize, r: usize)
-    requires { Sized n a.old × (i < n) × (r < n) }
-    ensures { a.new ≡ eliminate_row n i r a.old }
-{
-    let p = cell(n, r, i);
-    let q = cell(n, i, i);
-    let factor = a[p] / a[q];
-    for c in i..n + 1 {
-        let p = cell(n, r, c);
-        let q = cell(n, i, c);
-        a[p] -= factor * a[q];
+    fn eliminate_below(&mut self, i: usize)
+        requires { i < self.old.n }
+        ensures size { self.new.n ≡ self.old.n }
+        ensures after { self.new.entries.now ≡ eliminate_below self.old.n i self.old.entries.now }
+    {
+        for r in i + 1..self.n {
+            self.eliminate_row(i, r);
+        }
     }
-}
 
-fn eliminate_below(a: &mut [f64], n: usize, i: usize)
-    requires { Sized n a.old × (i < n) }
-    ensures { a.new ≡ eliminate_below n i a.old }
-{
-    for r in i + 1..n {
-        eliminate_row(a, n, i, r);
+    // Refused, and nothing is eliminated, where the pivot is too small. A NaN is not below any number, so it passes on.
+    fn reduce_column(&mut self, i: usize) -> Result<(), Refusal>
+        requires { i < self.old.n }
+        ensures size { self.new.n ≡ self.old.n }
+        ensures after { Reduces result self.new.entries.now (reduce_column self.old.n i self.old.entries.now) }
+    {
+        let m = self.pivot_row(i);
+        self.swap_rows(i, m);
+        let pivot = self.entry(i, i);
+        if float::abs(pivot) < 1e-12 {
+            return Err(Refusal::SmallPivot);
+        }
+        self.eliminate_below(i);
+        Ok(())
     }
-}
 
-// Refused, and nothing is eliminated, where the pivot is too small. A NaN is not below any number, so it passes on.
-fn reduce_column(a: &mut [f64], n: usize, i: usize) -> Result<(), Refusal>
-    requires { Sized n a.old × (i < n) }
-    ensures { Reduces result a.new (reduce_column n i a.old) }
-{
-    let m = pivot_row(a, n, i);
-    swap_rows(a, n, i, m);
-    let k = cell(n, i, i);
-    if float::abs(a[k]) < 1e-12 {
-        return Err(Refusal::SmallPivot);
+    fn forward_elimination(&mut self) -> Result<(), Refusal>
+        ensures size { self.new.n ≡ self.old.n }
+        ensures after { Reduces result self.new.entries.now (forward_elimination self.old.n self.old.entries.now) }
+    {
+        for i in 0..self.n {
+            self.reduce_column(i)?;
+        }
+        Ok(())
     }
-    eliminate_below(a, n, i);
-    Ok(())
-}
 
-fn forward_elimination(a: &mut [f64], n: usize) -> Result<(), Refusal>
-    requires { Sized n a.old }
-    ensures { Reduces result a.new (forward_elimination n a.old) }
-{
-    for i in 0..n {
-        reduce_column(a, n, i)?;
+    fn known_terms(&self, sol: &[f64], r: usize) -> f64
+        requires { (length sol.now ≡ self.now.n) × (r < self.now.n) }
+        ensures { result ≡ for (r + 1) self.now.n (add_term self.now.n self.now.entries.now sol.now r) (bits 0) }
+    {
+        let mut s = 0.0;
+        for c in r + 1..self.n {
+            s += self.entry(r, c) * sol[c];
+        }
+        s
     }
-    Ok(())
-}
 
-fn known_terms(a: &[f64], sol: &[f64], n: usize, r: usize) -> f64
-    requires { Sized n a.now × (length sol.now ≡ n) × (r < n) }
-    ensures { result ≡ for (r + 1) n (add_term n a.now sol.now r) (bits 0) }
-{
-    let mut s = 0.0;
-    for c in r + 1..n {
-        let k = cell(n, r, c);
-        s += a[k] * sol[c];
+    fn substitute_row(&self, sol: &mut [f64], r: usize)
+        requires { (length sol.old ≡ self.now.n) × (r < self.now.n) }
+        ensures { sol.new ≡ substitute_row self.now.n self.now.entries.now r sol.old }
+    {
+        let s = self.known_terms(sol, r);
+        sol[r] = (self.entry(r, self.n) - s) / self.entry(r, r);
     }
-    s
-}
 
-fn substitute_row(a: &[f64], sol: &mut [f64], n: usize, r: usize)
-    requires { Sized n a.now × (length sol.old ≡ n) × (r < n) }
-    ensures { sol.new ≡ substitute_row n a.now r sol.old }
-{
-    let s = known_terms(a, sol, n, r);
-    let p = cell(n, r, n);
-    let q = cell(n, r, r);
-    sol[r] = (a[p] - s) / a[q];
-}
-
-fn back_substitution(a: &[f64], sol: &mut [f64], n: usize)
-    requires { Sized n a.now × (length sol.old ≡ n) }
-    ensures { sol.new ≡ rev n (substitute_row n a.now) sol.old }
-{
-    for r in (0..n).rev() {
-        substitute_row(a, sol, n, r);
+    fn back_substitution(&self, sol: &mut [f64])
+        requires { length sol.old ≡ self.now.n }
+        ensures { sol.new ≡ rev self.now.n (substitute_row self.now.n self.now.entries.now) sol.old }
+    {
+        for r in (0..self.n).rev() {
+            self.substitute_row(sol, r);
+        }
     }
-}
 
-fn augment_row(a: &mut [f64], m: &[f64], v: &[f64], n: usize, r: usize)
-    requires { Sized n a.old × (length m.now ≡ n * n) × (length v.now ≡ n) × (r < n) }
-    ensures { a.new ≡ augment_row n m.now v.now r a.old }
-{
-    let first = cell(n, r, 0);
-    let last = cell(n, r, n);
-    let k = r * n;
-    a[first..last].copy_from_slice(&m[k..k + n]);
-    a[last] = v[r];
-}
+    fn augment_row(&mut self, m: &[f64], v: &[f64], r: usize)
+        requires { (length m.now ≡ self.old.n * self.old.n) × (length v.now ≡ self.old.n) × (r < self.old.n) }
+        ensures size { self.new.n ≡ self.old.n }
+        ensures after { self.new.entries.now ≡ augment_row self.old.n m.now v.now r self.old.entries.now }
+    {
+        let n = self.n;
+        let first = self.cell(r, 0);
+        let last = self.cell(r, n);
+        let k = r * n;
+        self.entries[first..last].copy_from_slice(&m[k..k + n]);
+        self.entries[last] = v[r];
+    }
 
-fn augment(a: &mut [f64], m: &[f64], v: &[f64], n: usize)
-    requires { Sized n a.old × (length m.now ≡ n * n) × (length v.now ≡ n) }
-    ensures { a.new ≡ for 0 n (augment_row n m.now v.now) a.old }
-{
-    for r in 0..n {
-        augment_row(a, m, v, n, r);
+    fn augment(&mut self, m: &[f64], v: &[f64])
+        requires { (length m.now ≡ self.old.n * self.old.n) × (length v.now ≡ self.old.n) }
+        ensures size { self.new.n ≡ self.old.n }
+        ensures after { self.new.entries.now ≡ for 0 self.old.n (augment_row self.old.n m.now v.now) self.old.entries.now }
+    {
+        for r in 0..self.n {
+            self.augment_row(m, v, r);
+        }
     }
 }
 
@@ -180,10 +197,11 @@ fn eliminate(m: &[f64], v: &[f64], n: usize, sol: &mut [f64], a: &mut [f64]) -> 
     ensures { Eliminates result sol.old sol.new (solution_of n m.now v.now) }
 {
     clear(a);
-    augment(a, m, v, n);
-    forward_elimination(a, n)?;
+    let mut system = Augmented { entries: a, n };
+    system.augment(m, v);
+    system.forward_elimination()?;
     clear(sol);
-    back_substitution(a, sol, n);
+    system.back_substitution(sol);
     Ok(())
 }
 

@@ -34,8 +34,12 @@ module _ (n : ℕ) (m v a z l f s : List Float) (sized : Sized n a) (ez : z ≡ 
 
 pub returns-in_err-forward_elimination : goal.returns-in_err-forward_elimination
 returns-in_err-forward_elimination c =
+    let same = c.augment.ensures.size in
     let p = err_from_is_err_and c.from_residual.result c.from_residual.ensures.1 in
-    rw (p.1, p.2) (singular _ _ _ _ _ _ _ _ c.requires.0 c.clear.ensures c.augment.ensures _ c.in_err-forward_elimination.ensures)
+    rw (p.1, p.2) (singular _ _ _ _ _ _ _ _ c.requires.0 c.clear.ensures c.augment.ensures.after _ (rw same at c.in_err-forward_elimination.ensures.after))
 
 pub returns : goal.returns
-returns c = found _ _ _ _ _ _ _ _ c.requires.0 c.clear.ensures c.augment.ensures _ _ _ c.in_ok-forward_elimination.ensures c.requires.3 c.clear-2.ensures c.back_substitution.ensures
+returns c =
+    let same = c.augment.ensures.size in
+    let solved = rw (c.forward_elimination.ensures.size, same) at c.back_substitution.ensures in
+    found _ _ _ _ _ _ _ _ c.requires.0 c.clear.ensures c.augment.ensures.after _ _ _ (rw same at c.in_ok-forward_elimination.ensures.after) c.requires.3 c.clear-2.ensures solved

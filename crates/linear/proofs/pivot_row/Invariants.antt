@@ -1,8 +1,0 @@
--- `pivot_row` meets its contract. Assumes nothing.
-use Prim.Native.Nat.{◌<◌}
-use Rattle.loops.proofs.Laws.{Left}
-use Rattle.linear.specs.Elimination.{larger_pivot, pivot_row}
-use Rattle.linear.proofs.pivot_row.Given as goal
-
-abbrev pub invariant-loop-r : goal.invariant-loop-r
-invariant-loop-r l = (l.m < l.n) × Left l.r l.n (larger_pivot l.n l.a l.i) l.m (pivot_row l.n l.a l.i)
