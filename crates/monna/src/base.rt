@@ -1,5 +1,6 @@
 // The bases of the digit maps.
-ghost use Rattle.std.specs.Prelude.{◌≡◌, ◌≤◌, Some, None, MatchResult};
+ghost use Rattle.std.specs.Prelude.{◌≡◌, Some, None, MatchResult};
+ghost use Rattle.monna.specs.Digits.{Base as IsBase};
 ghost use Rattle.monna.specs.Answers.{base_refusal};
 
 use refusal::Refusal;
@@ -8,8 +9,7 @@ use refusal::Refusal;
 #[derive(Clone, Copy, PartialEq, Eq, Debug)]
 pub struct Base {
     pub value: u64,
-    ghost least: { 2 ≤ value },
-    ghost greatest: { value ≤ 7 },
+    ghost is_base: { IsBase value },
 }
 
 // Refused: 12, p outside 2 to 7.

@@ -14,11 +14,11 @@ pub loop-diff-init : goal.loop-diff-init
 loop-diff-init c = (rw c.abs_diff-diff.ensures (gap_pos _ _ c.if-a-b.false), record { gives = rw (c.abs_diff-diff.ensures, c.nearest_u64_to_f64-q.ensures, one_bits) })
 
 pub loop-diff-smaller : goal.loop-diff-smaller
-loop-diff-smaller c = div-lt_self c.loop-diff.invariant.0 c.args.p.least
+loop-diff-smaller c = div-lt_self c.loop-diff.invariant.0 c.args.p.is_base.least
 
 pub loop-diff-preserved : goal.loop-diff-preserved
 loop-diff-preserved c =
-    let counts = count (record { least = c.args.p.least; greatest = c.args.p.greatest }) c.loop-diff.invariant.0 c.loop-diff-test.true c.loop-diff.invariant.1 in
+    let counts = count c.args.p.is_base c.loop-diff.invariant.0 c.loop-diff-test.true c.loop-diff.invariant.1 in
     (still _ _ c.loop-diff-test.true c.loop-diff.invariant.0, counts)
 
 pub returns : goal.returns

@@ -8,18 +8,18 @@ pub loop-init : goal.loop-init
 loop-init c = (sym (pow-zero _), omega arith, take_start _ _ c.args.x c.clamp-rest.ensures)
 
 pub overflow_mul-val : goal.overflow_mul-val
-overflow_mul-val c = record { fits = omega (arith, digit_bound _ _ c.saturating_f64_to_u64-digit.result _ (record { least = c.args.p.least; greatest = c.args.p.greatest }) (omega arith) c.loop.invariant.0) }
+overflow_mul-val c = record { fits = omega (arith, digit_bound _ _ c.saturating_f64_to_u64-digit.result _ c.args.p.is_base (omega arith) c.loop.invariant.0) }
 
 pub overflow_add-val : goal.overflow_add-val
-overflow_add-val c = record { fits = omega (arith, digit_bound _ _ c.saturating_f64_to_u64-digit.result _ (record { least = c.args.p.least; greatest = c.args.p.greatest }) (omega arith) c.loop.invariant.0) }
+overflow_add-val c = record { fits = omega (arith, digit_bound _ _ c.saturating_f64_to_u64-digit.result _ c.args.p.is_base (omega arith) c.loop.invariant.0) }
 
 pub overflow_mul-factor : goal.overflow_mul-factor
-overflow_mul-factor c = record { fits = omega (arith, factor_bound _ _ _ (record { least = c.args.p.least; greatest = c.args.p.greatest }) (omega arith) c.loop.invariant.0) }
+overflow_mul-factor c = record { fits = omega (arith, factor_bound _ _ _ c.args.p.is_base (omega arith) c.loop.invariant.0) }
 
 pub loop-preserved : goal.loop-preserved
 loop-preserved c = (
   rw c.loop.invariant.0 (power_more _ _),
-  omega (arith, digit_bound _ _ c.saturating_f64_to_u64-digit.result _ (record { least = c.args.p.least; greatest = c.args.p.greatest }) (omega arith) c.loop.invariant.0),
+  omega (arith, digit_bound _ _ c.saturating_f64_to_u64-digit.result _ c.args.p.is_base (omega arith) c.loop.invariant.0),
   take_one _ _ _ _ c.loop-test.true c.nearest_u64_to_f64-q.ensures c.floor.ensures c.saturating_f64_to_u64-digit.ensures c.nearest_u64_to_f64.ensures c.loop.invariant.2,
 )
 

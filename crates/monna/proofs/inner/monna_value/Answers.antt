@@ -10,11 +10,11 @@ unfolding monna_of
 loop-val-init c = record { gives = simp (c.nearest_u64_to_f64-q.ensures, one_bits) }
 
 pub loop-val-smaller : goal.loop-val-smaller
-loop-val-smaller c = div-lt_self c.loop-val-test.true c.args.p.least
+loop-val-smaller c = div-lt_self c.loop-val-test.true c.args.p.is_base.least
 
 pub loop-val-preserved : goal.loop-val-preserved
 loop-val-preserved c =
-    place _ _ _ (record { least = c.args.p.least; greatest = c.args.p.greatest }) c.loop-val-test.true c.nearest_u64_to_f64-q.ensures c.nearest_u64_to_f64.ensures c.loop-val.invariant
+    place _ _ _ c.args.p.is_base c.loop-val-test.true c.nearest_u64_to_f64-q.ensures c.nearest_u64_to_f64.ensures c.loop-val.invariant
 
 pub returns : goal.returns
 returns c = all_placed _ c.loop-val-test.false c.loop-val.invariant
