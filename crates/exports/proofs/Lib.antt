@@ -1,5 +1,4 @@
 pub mod Given
-pub mod Numbers
 pub mod Reading
 pub mod Told
 pub mod Written

@@ -1,35 +1,26 @@
--- From the solver's answer to its number. Assumes nothing.
-use mathlib.Core.Path.{◌≡◌, refl, ap, sym, ◌∙◌}
+-- From an answer that can be refused to its number. Assumes nothing.
+use mathlib.Core.Path.{◌≡◌, refl, ap, ◌∙◌}
 use mathlib.Core.List.{List}
-use Prim.Native.Nat.{ℕ, zero, suc}
+use Prim.Native.Nat.{ℕ}
 use lib.ListN.{length}
 use lib.Ieee.{Float}
-use Rattle.linear.specs.Answer.{Solves, answer_of, system_refusal}
-use Rattle.linear.specs.declared.Solution.{Solution}
-use Rattle.linear.specs.declared.Solution.TheVariants.{Found, Refused}
+use Rattle.std.proofs.Common.{Option, Some, None, Result}
+use Rattle.refusal.specs.Refusals.{answer}
+use Rattle.refusal.specs.declared.Refusal.{Refusal}
+use Rattle.linear.specs.Answer.{Solves, system_refusal}
+use Rattle.monna.specs.Answers.{Differs, history_refusal}
+use Rattle.exports.specs.Refused.{refusal_number, answer_number}
 use Rattle.exports.specs.Systems.{SolvesTo}
+use Rattle.exports.specs.Maps.{DiffersTo}
 
-pub number : Solution → ℕ
-number Found = 0
-number (Refused k) = k
+numbered : {A : Type 0} (r : Option Refusal) (a : A) → answer_number (answer r a) ≡ refusal_number r
+numbered None a = refl
+numbered (Some r) a = refl
 
-numbered : (k : ℕ) → number (answer_of k) ≡ k
-unfolding number
-numbered zero = refl
-numbered (suc k) = refl
-
-pub found_number : number Found ≡ 0
-unfolding number
-found_number = refl
-
-pub refused_number : (k : ℕ) → number (Refused k) ≡ k
-unfolding number
-refused_number k = refl
-
-pub solves_to : (n : ℕ) (m v o o' s s' : List Float) (r : Solution) (j : ℕ) → Solves n m v o o' s s' r → number r ≡ j → SolvesTo n m v o o' s s' j
+pub solves_to : (n : ℕ) (m v o o' s s' : List Float) (r : Result (Unit {0}) Refusal) (j : ℕ) → Solves n m v o o' s s' r → j ≡ answer_number r → SolvesTo n m v o o' s s' j
 solves_to n m v o o' s s' r j w e =
-    record {
-      answer = sym e ∙ ap number w.answer ∙ numbered (system_refusal n m v (length o) (length s));
-      out = w.out;
-      scratch = w.scratch;
-    }
+    record { answer = e ∙ ap answer_number w.answer ∙ numbered (system_refusal n m v (length o) (length s)) tt; out = w.out; scratch = w.scratch }
+
+pub differs_to : (x o o' : List Float) (r : Result (Unit {0}) Refusal) (j : ℕ) → Differs x o o' r → j ≡ answer_number r → DiffersTo x o o' j
+differs_to x o o' r j d e =
+    record { answered = e ∙ ap answer_number d.answered ∙ numbered (history_refusal (length x) (length o)) tt; out = d.out }

@@ -1,23 +1,9 @@
--- What the digit maps give: the number of a refusal, or 0 and the value.
-use Rattle.std.specs.Prelude.{ℕ, Float}
-use Rattle.monna.specs.declared.Mapped.{Mapped}
-use Rattle.monna.specs.declared.Mapped.TheVariants as mapped
-use Rattle.monna.specs.declared.Inverse.{Inverse}
-use Rattle.monna.specs.declared.Inverse.TheVariants as inverse
+-- What `wisvalom_compute_fractional_difference_history` answers and writes: as `compute_fractional_difference_history`, with 0 where the differences are
+-- written.
+use Rattle.std.specs.Prelude.{◌≡◌, ℕ, List, length, Float}
+use Rattle.monna.specs.Answers.{history_refusal, history_out}
+use Rattle.exports.specs.Refused.{refusal_number}
 
-unfoldable pub mapped_number : Mapped → ℕ
-mapped_number (mapped.Value x) = 0
-mapped_number (mapped.Refused n) = n
-
--- refused: what was there
-unfoldable pub mapped_value : Float → Mapped → Float
-mapped_value old (mapped.Value x) = x
-mapped_value old (mapped.Refused n) = old
-
-unfoldable pub inverse_number : Inverse → ℕ
-inverse_number (inverse.Value x) = 0
-inverse_number (inverse.Refused n) = n
-
-unfoldable pub inverse_value : ℕ → Inverse → ℕ
-inverse_value old (inverse.Value x) = x
-inverse_value old (inverse.Refused n) = old
+pub record DiffersTo (x o o' : List Float) (r : ℕ) : Type 0 where
+  pub answered : r ≡ refusal_number (history_refusal (length x) (length o))
+  pub out : o' ≡ history_out (history_refusal (length x) (length o)) x o

@@ -1,61 +1,41 @@
 // The digit maps.
 ghost use Rattle.std.specs.Prelude.{◌≡◌};
 ghost use Rattle.monna.specs.Digits.{normalized_of};
-ghost use Rattle.monna.specs.Answers.{monna_map_of, inverse_monna_map_of, p_adic_distance_of, Differs};
-ghost use Rattle.exports.specs.Maps.{mapped_number, mapped_value, inverse_number, inverse_value};
+ghost use Rattle.monna.specs.Answers.{monna_map_of, inverse_monna_map_of, p_adic_distance_of};
+ghost use Rattle.exports.specs.Refused.{answer_number, value_or};
+ghost use Rattle.exports.specs.Maps.{DiffersTo};
 
-use monna::{Inverse, Mapped};
+use crate::refused;
 
 #[unsafe(no_mangle)]
 pub extern "C" fn wisvalom_monna_map(val: u64, p: u64, out: &mut f64) -> u32
-    ensures value { result ≡ mapped_number (monna_map_of val p) }
-    ensures out_after { out.new ≡ mapped_value out.old (monna_map_of val p) }
+    ensures value { result ≡ answer_number (monna_map_of val p) }
+    ensures out_after { out.new ≡ value_or out.old (monna_map_of val p) }
 {
-    let answer = monna::monna_map(val, p);
-    match answer {
-        Mapped::Value(x) => {
-            *out = x;
-            0
-        }
-        Mapped::Refused(n) => n,
-    }
+    refused::put(monna::monna_map(val, p), out)
 }
 
 #[unsafe(no_mangle)]
 pub extern "C" fn wisvalom_inverse_monna_map(x: f64, p: u64, precision: usize, out: &mut u64) -> u32
-    ensures value { result ≡ inverse_number (inverse_monna_map_of x p precision) }
-    ensures out_after { out.new ≡ inverse_value out.old (inverse_monna_map_of x p precision) }
+    ensures value { result ≡ answer_number (inverse_monna_map_of x p precision) }
+    ensures out_after { out.new ≡ value_or out.old (inverse_monna_map_of x p precision) }
 {
-    let answer = monna::inverse_monna_map(x, p, precision);
-    match answer {
-        Inverse::Value(v) => {
-            *out = v;
-            0
-        }
-        Inverse::Refused(n) => n,
-    }
+    refused::put(monna::inverse_monna_map(x, p, precision), out)
 }
 
 #[unsafe(no_mangle)]
 pub extern "C" fn wisvalom_p_adic_distance(a: u64, b: u64, p: u64, out: &mut f64) -> u32
-    ensures value { result ≡ mapped_number (p_adic_distance_of a b p) }
-    ensures out_after { out.new ≡ mapped_value out.old (p_adic_distance_of a b p) }
+    ensures value { result ≡ answer_number (p_adic_distance_of a b p) }
+    ensures out_after { out.new ≡ value_or out.old (p_adic_distance_of a b p) }
 {
-    let answer = monna::p_adic_distance(a, b, p);
-    match answer {
-        Mapped::Value(x) => {
-            *out = x;
-            0
-        }
-        Mapped::Refused(n) => n,
-    }
+    refused::put(monna::p_adic_distance(a, b, p), out)
 }
 
 #[unsafe(no_mangle)]
 pub extern "C" fn wisvalom_compute_fractional_difference_history(x: &[f64], out: &mut [f64]) -> u32
-    ensures { Differs x.now out.old out.new result }
+    ensures { DiffersTo x.now out.old out.new result }
 {
-    monna::compute_fractional_difference_history(x, out)
+    refused::number(monna::compute_fractional_difference_history(x, out))
 }
 
 #[unsafe(no_mangle)]

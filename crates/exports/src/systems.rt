@@ -1,7 +1,7 @@
 // Elimination.
 ghost use Rattle.exports.specs.Systems.{SolvesTo};
 
-use linear::Solution;
+use crate::refused;
 
 #[unsafe(no_mangle)]
 pub extern "C" fn wisvalom_solve_linear_system(
@@ -14,9 +14,5 @@ pub extern "C" fn wisvalom_solve_linear_system(
     ensures { SolvesTo n matrix.now vector.now out.old out.new
         scratch.old scratch.new result }
 {
-    let answer = linear::solve_linear_system(matrix, vector, n, out, scratch);
-    match answer {
-        Solution::Found => 0,
-        Solution::Refused(k) => k,
-    }
+    refused::number(linear::solve_linear_system(matrix, vector, n, out, scratch))
 }
