@@ -1,6 +1,6 @@
 // The generator, the digit maps and the fractional differences.
 use monna::rng::{Draw, SimpleRng};
-use monna::{Inverse, Mapped};
+use refusal::Refusal;
 
 // Whether the answer is the next state and the number drawn.
 fn same_draw(answer: &[u8], d: Draw) -> bool {
@@ -8,18 +8,17 @@ fn same_draw(answer: &[u8], d: Draw) -> bool {
     answer_lines::field(answer, 0) == next.state && answer_lines::float_is(answer, 1, d.value)
 }
 
-fn same_mapped(answer: &[u8], a: Mapped) -> bool {
+fn same_mapped(answer: &[u8], a: Result<f64, Refusal>) -> bool {
     match a {
-        Mapped::Value(x) => crate::given(answer, x),
-        Mapped::Refused(n) => answer_lines::refused(answer, n),
+        Ok(x) => crate::given(answer, x),
+        Err(r) => answer_lines::refused(answer, r.number()),
     }
 }
 
-fn same_inverse(answer: &[u8], a: Inverse) -> bool {
+fn same_inverse(answer: &[u8], a: Result<u64, Refusal>) -> bool {
     match a {
-        Inverse::Value(v) => answer_lines::refused(answer, 0)
-            && answer_lines::field(answer, 1) == v,
-        Inverse::Refused(n) => answer_lines::refused(answer, n),
+        Ok(v) => answer_lines::refused(answer, 0) && answer_lines::field(answer, 1) == v,
+        Err(r) => answer_lines::refused(answer, r.number()),
     }
 }
 
@@ -29,14 +28,11 @@ fn history(asked: &[u8], answer: &[u8]) -> bool {
     answer_lines::floats(answer_lines::from(asked, 1), &mut room);
     let x = answer_lines::first_floats(&room, answer_lines::field(asked, 0));
     let n = x.len();
-    let refusal = monna::compute_fractional_difference_history(x, &mut out);
-    if !answer_lines::refused(answer, refusal) {
-        return false;
+    match monna::compute_fractional_difference_history(x, &mut out) {
+        Ok(()) => answer_lines::refused(answer, 0)
+            && answer_lines::same_floats(answer_lines::from(answer, 1), n, &out),
+        Err(r) => answer_lines::refused(answer, r.number()),
     }
-    if refusal != 0 {
-        return true;
-    }
-    answer_lines::same_floats(answer_lines::from(answer, 1), n, &out)
 }
 
 fn normal(asked: &[u8], answer: &[u8]) -> bool {

@@ -1,18 +1,13 @@
 // Systems of linear equations.
 use crate::rooms;
-use linear::Solution;
 
 fn same_solution(matrix: &[f64], vector: &[f64], n: usize, answer: &[u8]) -> bool {
     let mut out = [0.0f64; 68];
     let mut scratch = rooms::elimination();
     match linear::solve_linear_system(matrix, vector, n, &mut out, &mut scratch) {
-        Solution::Found => {
-            if !answer_lines::refused(answer, 0) {
-                return false;
-            }
-            answer_lines::same_floats(answer_lines::from(answer, 1), n, &out)
-        }
-        Solution::Refused(k) => answer_lines::refused(answer, k),
+        Ok(()) => answer_lines::refused(answer, 0)
+            && answer_lines::same_floats(answer_lines::from(answer, 1), n, &out),
+        Err(r) => answer_lines::refused(answer, r.number()),
     }
 }
 
