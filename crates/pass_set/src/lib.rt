@@ -11,32 +11,22 @@ pub const MAX_PASSES: usize = 16;
 pub const MAX_SAMPLES: usize = 4096;
 
 // How many samples the counts make.
+#[tactic(auto, using(crate::proofs::Laws::total_sum))]
 fn total_of(counts: &[u32]) -> usize
     requires { length counts.now ≤ 16 }
     ensures { result ≡ total counts.now }
 {
-    let mut sum = 0usize;
-    for p in 0..counts.len() {
-        sum += counts[p] as usize;
-    }
-    sum
+    counts.iter().map(|n| *n as usize).sum()
 }
 
 // False is refusal 5.
+#[tactic(auto, unfolding(crate::specs::PassSet::sizes_agree))]
 pub fn sizes_agree(counts: &[u32], times: usize, freqs: usize, centers: usize) -> bool
     ensures { result ≡ sizes_agree counts.now times freqs centers }
 {
-    if counts.len() > MAX_PASSES {
-        return false;
-    }
-    if centers != counts.len() {
-        return false;
-    }
-    if times > MAX_SAMPLES {
-        return false;
-    }
-    if freqs != times {
-        return false;
-    }
-    total_of(counts) == times
+    counts.len() <= MAX_PASSES
+        && centers == counts.len()
+        && times <= MAX_SAMPLES
+        && freqs == times
+        && total_of(counts) == times
 }
