@@ -1,5 +1,5 @@
 pub mod Words
 pub mod Signs
-pub mod Runs
+pub mod Chunks
 pub mod Whole
 pub mod Theorems

@@ -17,8 +17,8 @@ use Rattle.laws.proofs.Tests.{and_true}
 use Rattle.pass_set.specs.PassSet.{total, Sizes}
 use Rattle.stored.specs.Numbers.{little_endian, low_bytes, time_bits, time_of, numbers_in, written}
 use Rattle.stored.specs.Sets.{passes_in, counts_in, samples_in, times_in, freqs_in, sized_right, bytes_of}
-use Rattle.stored.proofs.Runs.{length_bytes}
-use Rattle.stored.proofs.Whole.{Fits, by_length, length_written}
+use Rattle.stored.proofs.Chunks.{length_bytes, length_written, length_taken}
+use Rattle.stored.proofs.Whole.{Fits, by_length}
 use Rattle.stored.proofs.Whole as whole
 
 -- ---- one number
@@ -230,11 +230,6 @@ module _ {A : Type 0} (w : ℕ) (f : ℕ → A) (g : A → ℕ) where
       ∙ (λ j. bytes_le w l (omega arith) a j ++ written_taken k (drop w l) (omega arith) (all_drop w l a) e.1 j)
       ∙ take_add w (w * k) l
       ∙ ap (λ (n : ℕ). take n l) (sym (s ∙ add_comm (w * k) w))
-
-pub length_taken : {A : Type 0} (w : ℕ) (f : ℕ → A) (k : ℕ) (l : List ℕ) → length (numbers_in w f k l) ≡ k
-unfolding numbers_in
-length_taken w f zero l = refl
-length_taken w f (suc k) l = ap suc (length_taken w f k (drop w l))
 
 counts_kept : (k : ℕ) (l : List ℕ) → Kept 4 (λ n. n) (λ n. n) k l
 counts_kept zero l = tt

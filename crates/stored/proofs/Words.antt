@@ -1,49 +1,93 @@
 -- Little-endian numbers, byte by byte. Assumes nothing.
 use mathlib.Core.Path.{◌≡◌, refl, sym, ap, ◌∙◌}
 use mathlib.Core.List.{List, [], ◌∷◌, ◌++◌}
-use Prim.Native.Nat.{ℕ, suc, ◌+◌, ◌*◌, ◌/◌, ◌≤◌, ◌<◌}
-use native.Mathlib.Nat.{add-zero}
+use Prim.Native.Nat.{ℕ, zero, suc, ◌+◌, ◌*◌, ◌/◌, ◌%◌, ◌^◌}
+use native.Mathlib.Nat.{add-zero, pow-suc}
 use native.Mathlib.Numerals.{add-one}
 use native.Mathlib.Omega.{arith}
-use lib.ListN.{length, get_or, drop, set}
-use lib.Seq.{drop-cons, sets}
+use lib.ListN.{length, get_or, take, drop, set}
+use lib.Seq.{sets}
+use Rattle.std.proofs.Math.Nat.{div-div-eq-div-mul}
+use Rattle.std.specs.Int.{w32, w64, from_le_bytes, to_le_bytes, byte_at, bytes_low_first}
 use Rattle.stored.specs.Numbers.{little_endian, low_bytes}
 
 -- ---- reading
 
-le_at : (n : ℕ) (l : List ℕ) (i j : ℕ) → j ≡ i + 1 → i < length l → little_endian (suc n) (drop i l) ≡ get_or l i 0 + 256 * little_endian n (drop j l)
+-- past the end stand zeros
+le_at : (n : ℕ) (l : List ℕ) (i : ℕ) → little_endian (suc n) (drop i l) ≡ get_or l i 0 + 256 * little_endian n (drop (suc i) l)
 unfolding little_endian
-le_at n l i j e h = ap (little_endian (suc n)) (drop-cons l i 0 h) ∙ ap (λ (k : ℕ). get_or l i 0 + 256 * little_endian n (drop k l)) (sym (e ∙ add-one i))
+le_at zero [] zero = refl
+le_at (suc n) [] zero = refl
+le_at n (b ∷ l) zero = refl
+le_at zero [] (suc i) = refl
+le_at (suc n) [] (suc i) = refl
+le_at n (b ∷ l) (suc i) = le_at n l i
 
 le_none : (l : List ℕ) → little_endian 0 l ≡ 0
 unfolding little_endian
 le_none l = refl
 
--- four bytes before n more
-le_more : (n : ℕ) (l : List ℕ) (at : ℕ) → at + 4 ≤ length l
-    → little_endian (suc (suc (suc (suc n)))) (drop at l) ≡ get_or l at 0 + 256 * (get_or l (at + 1) 0 + 256 * (get_or l (at + 2) 0 + 256 * (get_or l (at + 3) 0 + 256 * little_endian n (drop (at + 4) l))))
-le_more n l at h =
-    rw (
-      le_at (suc (suc (suc n))) l at (at + 1) refl (omega arith),
-      le_at (suc (suc n)) l (at + 1) (at + 2) (omega arith) (omega arith),
-      le_at (suc n) l (at + 2) (at + 3) (omega arith) (omega arith),
-      le_at n l (at + 3) (at + 4) (omega arith) (omega arith),
-    ) refl
+-- the library's words
+pub from_word : (l : List ℕ) → from_le_bytes w32 l ≡ little_endian 4 l
+from_word l = let a = le_at 3 l 0 in let b = le_at 2 l 1 in let c = le_at 1 l 2 in let d = le_at 0 l 3 in let e = le_none (drop 4 l) in omega arith
 
-pub le_4 : (l : List ℕ) (at : ℕ) → at + 4 ≤ length l → little_endian 4 (drop at l) ≡ get_or l at 0 + 256 * (get_or l (at + 1) 0 + 256 * (get_or l (at + 2) 0 + 256 * get_or l (at + 3) 0))
-le_4 l at h = le_more 0 l at h ∙ omega (arith, le_none (drop (at + 4) l))
+pub from_double : (l : List ℕ) → from_le_bytes w64 l ≡ little_endian 8 l
+from_double l =
+    let a = le_at 7 l 0 in
+    let b = le_at 6 l 1 in
+    let c = le_at 5 l 2 in
+    let d = le_at 4 l 3 in
+    let e = le_at 3 l 4 in
+    let f = le_at 2 l 5 in
+    let g = le_at 1 l 6 in
+    let h = le_at 0 l 7 in
+    let z = le_none (drop 8 l) in
+    omega arith
 
-pub le_8 : (l : List ℕ) (at : ℕ) → at + 8 ≤ length l → little_endian 8 (drop at l) ≡ little_endian 4 (drop at l) + 4294967296 * little_endian 4 (drop (at + 4) l)
-le_8 l at h = le_more 4 l at (omega arith) ∙ omega (arith, le_4 l at (omega arith))
+-- four bytes of a list, as a list of their own
+pub from_word_at : (l : List ℕ) (at : ℕ) → from_le_bytes w32 (get_or l at 0 ∷ get_or l (at + 1) 0 ∷ get_or l (at + 2) 0 ∷ get_or l (at + 3) 0 ∷ []) ≡ little_endian 4 (drop at l)
+from_word_at l at =
+    let a = le_at 3 l at in
+    let b = le_at 2 l (suc at) in
+    let c = le_at 1 l (suc (suc at)) in
+    let d = le_at 0 l (suc (suc (suc at))) in
+    let e = le_none (drop (suc (suc (suc (suc at)))) l) in
+    rw (add-one at, two at, three at) (omega arith)
+  where
+    two : (n : ℕ) → n + 2 ≡ suc (suc n)
+    two n = omega arith
+
+    three : (n : ℕ) → n + 3 ≡ suc (suc (suc n))
+    three n = omega arith
+
+-- the first bytes alone decide
+pub le_take : (n : ℕ) (l : List ℕ) → little_endian n (take n l) ≡ little_endian n l
+unfolding little_endian
+le_take zero l = refl
+le_take (suc n) [] = refl
+le_take (suc n) (b ∷ l) = ap (λ (k : ℕ). b + 256 * k) (le_take n l)
 
 -- ---- writing
 
-pub put_4 : (l : List ℕ) (at a b c d : ℕ) → set (set (set (set l at a) (at + 1) b) (at + 2) c) (at + 3) d ≡ sets l at (a ∷ b ∷ c ∷ d ∷ [])
-put_4 l at a b c d =
-    let p : at + 1 ≡ suc at = add-one at in
-    let q : at + 2 ≡ suc (suc at) = omega arith in
-    let r : at + 3 ≡ suc (suc (suc at)) = omega arith in
-    (λ j. set (set (set (set l at a) (p j) b) (q j) c) (r j) d)
+byte_is : (i v : ℕ) → byte_at i v ≡ v / 256 ^ i % 256
+byte_is zero v = ap (λ (k : ℕ). k % 256) (omega arith)
+byte_is (suc i) v = refl
+
+pub low_first : (i k v : ℕ) → bytes_low_first i k v ≡ low_bytes k (v / 256 ^ i)
+unfolding low_bytes
+low_first i zero v = refl
+low_first i (suc k) v =
+    (λ j. byte_is i v j ∷ low_first (suc i) k v j)
+    ∙ ap (λ (u : ℕ). v / 256 ^ i % 256 ∷ low_bytes k u) (ap (λ (p : ℕ). v / p) (pow-suc 256 i) ∙ sym (div-div-eq-div-mul v (256 ^ i) 256))
+
+to_bytes : (k v : ℕ) → bytes_low_first 0 k v ≡ low_bytes k v
+to_bytes k v = low_first 0 k v ∙ ap (low_bytes k) (omega arith)
+
+pub to_bytes_4 : (v : ℕ) → to_le_bytes w32 v ≡ low_bytes 4 v
+to_bytes_4 v = to_bytes 4 v
+
+pub to_bytes_8 : (v : ℕ) → to_le_bytes w64 v ≡ low_bytes 8 v
+to_bytes_8 v = to_bytes 8 v
 
 pub sets_append : {A : Type 0} (xs ys : List A) (l : List A) (i : ℕ) → sets l i (xs ++ ys) ≡ sets (sets l i xs) (i + length xs) ys
 sets_append [] ys l i = ap (λ (k : ℕ). sets l k ys) (sym (add-zero i))
@@ -51,14 +95,3 @@ sets_append (x ∷ xs) ys l i = sets_append xs ys (set l i x) (suc i) ∙ ap (λ
   where
     next : (i n : ℕ) → suc i + n ≡ i + suc n
     next i n = omega arith
-
-four : (v : ℕ) → v / 256 / 256 / 256 / 256 ≡ v / 4294967296
-four v = omega arith
-
-pub bytes_8 : (v : ℕ) → low_bytes 8 v ≡ low_bytes 4 v ++ low_bytes 4 (v / 4294967296)
-unfolding low_bytes
-bytes_8 v = ap (λ (u : ℕ). low_bytes 4 v ++ low_bytes 4 u) (four v)
-
-pub put_8 : (l : List ℕ) (at v : ℕ) → sets (sets l at (low_bytes 4 v)) (at + 4) (low_bytes 4 (v / 4294967296)) ≡ sets l at (low_bytes 8 v)
-unfolding low_bytes
-put_8 l at v = sym (ap (sets l at) (bytes_8 v) ∙ sets_append (low_bytes 4 v) (low_bytes 4 (v / 4294967296)) l at)

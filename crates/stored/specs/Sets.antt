@@ -1,16 +1,16 @@
 -- A pass set as stored bytes: u32 pass count, one u32 sample count per pass, all times (i64 nanoseconds since 1970), all
 -- frequencies (f64 bits), little-endian, nothing after (document 01).
-use Rattle.std.specs.Prelude.{ℕ, ◌+◌, ◌*◌, ◌≡◌, Bool, not, ◌&&◌, cond, List, [], ◌∷◌, ◌++◌, leb, ltb, eqb, ℤ, Float, length, drop}
+use Rattle.std.specs.Prelude.{ℕ, ◌+◌, ◌*◌, ◌≤◌, ◌≡◌, Bool, not, ◌&&◌, cond, List, [], ◌∷◌, ◌++◌, leb, ltb, eqb, ℤ, Float, Option, Some, None, Result, is_ok, length, drop}
 use Rattle.std.specs.Float.{binary64}
 use Rattle.std.specs.Float.Ieee.{of_bits, to_bits}
 use Rattle.std.proofs.lemmas.List.Edits.{sets}
-use Rattle.refusal.specs.Numbers as refusal
-use Rattle.refusal.specs.Order.{first, ◌if◌}
+use Rattle.refusal.specs.Refusals.{◌when◌, first_of, answer}
+use Rattle.refusal.specs.declared.Refusal.{Refusal}
+use Rattle.refusal.specs.declared.Refusal.TheVariants.{MomentRange, Sizes, ShortMemory}
 use Rattle.moment.specs.Sample.{times_in_range}
 use Rattle.pass_set.specs.PassSet.{total, sizes_agree}
 use Rattle.stored.specs.Numbers.{little_endian, low_bytes, time_bits, time_of, numbers_in, written}
 use Rattle.stored.specs.declared.Loaded.{Loaded}
-use Rattle.stored.specs.declared.Stored.{Stored}
 
 -- ---- from bytes
 
@@ -33,28 +33,39 @@ freqs_in b = numbers_in 8 (of_bits binary64) (samples_in b) (drop (4 + 4 * passe
 unfoldable pub sized_right : List ℕ → Bool
 sized_right b = leb (passes_in b) 16 && (leb (samples_in b) 4096 && eqb (length b) (4 + 4 * passes_in b + 16 * samples_in b))
 
+abbrev pub set_in : List ℕ → Loaded
+set_in b = record { passes = passes_in b; samples = samples_in b }
+
+-- the sizes, where they are right
+unfoldable pub sizes_in : List ℕ → Option Loaded
+sizes_in b = cond (sized_right b) (Some (set_in b)) None
+
+-- the bytes are as many as p passes and s samples take, and these are no more than a set has
+pub record Room (b : List ℕ) (p s : ℕ) : Type 0 where
+  pub few : p ≤ 16
+  pub small : s ≤ 4096
+  pub size : length b ≡ 4 + 4 * p + 16 * s
+
 -- for outputs of nc, nt and nf places
-unfoldable pub load_refusal : List ℕ → ℕ → ℕ → ℕ → ℕ
+unfoldable pub load_refusal : List ℕ → ℕ → ℕ → ℕ → Option Refusal
 load_refusal b nc nt nf =
-    first (
-    (refusal.sizes if not (sized_right b))
-    ∷ (refusal.moment_range if not (times_in_range (times_in b)))
-    ∷ (refusal.short_memory if ltb nc (passes_in b))
-    ∷ (refusal.short_memory if ltb nt (samples_in b))
-    ∷ (refusal.short_memory if ltb nf (samples_in b))
+    first_of (
+    (Sizes when not (sized_right b))
+    ∷ (MomentRange when not (times_in_range (times_in b)))
+    ∷ (ShortMemory when ltb nc (passes_in b))
+    ∷ (ShortMemory when ltb nt (samples_in b))
+    ∷ (ShortMemory when ltb nf (samples_in b))
     ∷ [])
 
-unfoldable pub loaded : List ℕ → ℕ → ℕ → ℕ → Loaded
-loaded b nc nt nf =
-    let k = load_refusal b nc nt nf in
-    cond (eqb k 0) (record { refusal = 0; passes = passes_in b; samples = samples_in b }) (record { refusal = k; passes = 0; samples = 0 })
+unfoldable pub loaded : List ℕ → ℕ → ℕ → ℕ → Result Loaded Refusal
+loaded b nc nt nf = answer (load_refusal b nc nt nf) (set_in b)
 
 -- what `load` promises
-pub record Loads (b counts counts' : List ℕ) (times times' : List ℤ) (freqs freqs' : List Float) (r : Loaded) : Type 0 where
+pub record Loads (b counts counts' : List ℕ) (times times' : List ℤ) (freqs freqs' : List Float) (r : Result Loaded Refusal) : Type 0 where
   pub says : r ≡ loaded b (length counts) (length times) (length freqs)
-  pub put_counts : counts' ≡ cond (eqb r.refusal 0) (sets counts 0 (counts_in b)) counts
-  pub put_times : times' ≡ cond (eqb r.refusal 0) (sets times 0 (times_in b)) times
-  pub put_freqs : freqs' ≡ cond (eqb r.refusal 0) (sets freqs 0 (freqs_in b)) freqs
+  pub put_counts : counts' ≡ cond (is_ok r) (sets counts 0 (counts_in b)) counts
+  pub put_times : times' ≡ cond (is_ok r) (sets times 0 (times_in b)) times
+  pub put_freqs : freqs' ≡ cond (is_ok r) (sets freqs 0 (freqs_in b)) freqs
 
 -- ---- to bytes
 
@@ -66,20 +77,18 @@ abbrev pub size_of : List ℕ → List ℤ → ℕ
 size_of counts times = 4 + 4 * length counts + 16 * length times
 
 -- for an output of n bytes
-unfoldable pub store_refusal : List ℕ → List ℤ → List Float → ℕ → ℕ
+unfoldable pub store_refusal : List ℕ → List ℤ → List Float → ℕ → Option Refusal
 store_refusal counts times freqs n =
-    first (
-    (refusal.moment_range if not (times_in_range times))
-    ∷ (refusal.sizes if not (sizes_agree counts (length times) (length freqs) (length counts)))
-    ∷ (refusal.short_memory if ltb n (size_of counts times))
+    first_of (
+    (MomentRange when not (times_in_range times))
+    ∷ (Sizes when not (sizes_agree counts (length times) (length freqs) (length counts)))
+    ∷ (ShortMemory when ltb n (size_of counts times))
     ∷ [])
 
-unfoldable pub stored : List ℕ → List ℤ → List Float → ℕ → Stored
-stored counts times freqs n =
-    let k = store_refusal counts times freqs n in
-    cond (eqb k 0) (record { refusal = 0; size = size_of counts times }) (record { refusal = k; size = 0 })
+unfoldable pub stored : List ℕ → List ℤ → List Float → ℕ → Result ℕ Refusal
+stored counts times freqs n = answer (store_refusal counts times freqs n) (size_of counts times)
 
 -- what `store` promises
-pub record Stores (counts : List ℕ) (times : List ℤ) (freqs : List Float) (out out' : List ℕ) (r : Stored) : Type 0 where
+pub record Stores (counts : List ℕ) (times : List ℤ) (freqs : List Float) (out out' : List ℕ) (r : Result ℕ Refusal) : Type 0 where
   pub says : r ≡ stored counts times freqs (length out)
-  pub put : out' ≡ cond (eqb r.refusal 0) (sets out 0 (bytes_of counts times freqs)) out
+  pub put : out' ≡ cond (is_ok r) (sets out 0 (bytes_of counts times freqs)) out

@@ -5,8 +5,11 @@
 mod arrays;
 pub mod number;
 
-ghost use Rattle.std.specs.Prelude.{◌≡◌};
+ghost use Rattle.std.specs.Prelude.{◌≡◌, IfSome};
 ghost use Rattle.stored.specs.Sets as Sets;
+
+use pass_set::MAX_PASSES;
+use refusal::Refusal;
 
 // How many samples a set has at most.
 const MOST_SAMPLES: usize = 4096;
@@ -14,107 +17,80 @@ const MOST_SAMPLES: usize = 4096;
 // What a set that was loaded has.
 #[derive(Clone, Copy)]
 pub struct Loaded {
-    pub refusal: u32,
     pub passes: usize,
     pub samples: usize,
 }
 
-// How many bytes were stored.
-#[derive(Clone, Copy)]
-pub struct Stored {
-    pub refusal: u32,
-    pub size: usize,
-}
-
-// False is refusal 5.
-fn sized_right(b: &[u8]) -> bool
-    ensures { result ≡ Sets.sized_right b.now }
+// The sizes that the bytes give, where the bytes are as many as they take.
+fn sizes_in(b: &[u8]) -> Option<Loaded>
+    ensures value { result ≡ Sets.sizes_in b.now }
+    ensures room { IfSome result (λ s. Sets.Room b.now s.passes s.samples) }
 {
     if b.len() < 4 {
-        return false;
+        return None;
     }
     let passes = number::word_at(b, 0) as usize;
-    if 16 < passes {
-        return false;
+    if MAX_PASSES < passes || b.len() < 4 + 4 * passes {
+        return None;
     }
-    if b.len() < 4 + 4 * passes {
-        return false;
+    let (counts, _) = b[4..4 + 4 * passes].as_chunks::<4>();
+    let samples = arrays::total_of(counts);
+    if MOST_SAMPLES < samples || b.len() != 4 + 4 * passes + 16 * samples {
+        return None;
     }
-    let samples = arrays::total_at(b, passes);
-    if MOST_SAMPLES < samples {
-        return false;
-    }
-    b.len() == 4 + 4 * passes + 16 * samples
-}
-
-fn not_loaded(refusal: u32) -> Loaded
-    ensures { result ≡ record { refusal = refusal; passes = 0; samples = 0 } }
-{
-    Loaded {
-        refusal,
-        passes: 0,
-        samples: 0,
-    }
+    Some(Loaded { passes, samples })
 }
 
 // The set that the bytes hold, into the first places of the arrays.
-// Refused: 5, the sizes; 4, a time outside 1957 to 2056; 21, an array is too short.
-pub fn load(b: &[u8], counts: &mut [u32], times: &mut [i64], freqs: &mut [f64]) -> Loaded
+// Refused: the sizes; a time outside 1957 to 2056; an array that is too short.
+pub fn load(
+    b: &[u8],
+    counts: &mut [u32],
+    times: &mut [i64],
+    freqs: &mut [f64],
+) -> Result<Loaded, Refusal>
     ensures { Sets.Loads b.now counts.old counts.new times.old times.new freqs.old freqs.new result }
 {
-    if !sized_right(b) {
-        return not_loaded(refusal::SIZES);
+    let Some(set) = sizes_in(b) else {
+        return Err(Refusal::Sizes);
+    };
+    let times_at = 4 + 4 * set.passes;
+    let freqs_at = times_at + 8 * set.samples;
+    let (count_bytes, _) = b[4..times_at].as_chunks::<4>();
+    let (time_bytes, _) = b[times_at..freqs_at].as_chunks::<8>();
+    let (freq_bytes, _) = b[freqs_at..].as_chunks::<8>();
+    if !arrays::in_range(time_bytes) {
+        return Err(Refusal::MomentRange);
     }
-    let passes = number::word_at(b, 0) as usize;
-    let samples = arrays::total_at(b, passes);
-    let at = 4 + 4 * passes;
-    if !arrays::in_range_at(b, at, samples) {
-        return not_loaded(refusal::MOMENT_RANGE);
+    if counts.len() < set.passes || times.len() < set.samples || freqs.len() < set.samples {
+        return Err(Refusal::ShortMemory);
     }
-    if counts.len() < passes {
-        return not_loaded(refusal::SHORT_MEMORY);
-    }
-    if times.len() < samples {
-        return not_loaded(refusal::SHORT_MEMORY);
-    }
-    if freqs.len() < samples {
-        return not_loaded(refusal::SHORT_MEMORY);
-    }
-    arrays::load_counts(b, 4, passes, counts);
-    arrays::load_times(b, at, samples, times);
-    arrays::load_freqs(b, at + 8 * samples, samples, freqs);
-    Loaded {
-        refusal: 0,
-        passes,
-        samples,
-    }
+    arrays::load(count_bytes, &mut counts[..set.passes]);
+    arrays::load(time_bytes, &mut times[..set.samples]);
+    arrays::load(freq_bytes, &mut freqs[..set.samples]);
+    Ok(set)
 }
 
-fn not_stored(refusal: u32) -> Stored
-    ensures { result ≡ record { refusal = refusal; size = 0 } }
-{
-    Stored { refusal, size: 0 }
-}
-
-// The set's bytes, into the first places of out.
-// Refused: 4, a time outside 1957 to 2056; 5, the sizes; 21, out is too short.
-pub fn store(counts: &[u32], times: &[i64], freqs: &[f64], out: &mut [u8]) -> Stored
+// The set's bytes, into the first places of out, and how many they are.
+// Refused: a time outside 1957 to 2056; the sizes; an output that is too short.
+pub fn store(counts: &[u32], times: &[i64], freqs: &[f64], out: &mut [u8]) -> Result<usize, Refusal>
     ensures { Sets.Stores counts.now times.now freqs.now out.old out.new result }
 {
     if !moment::sample::all_in_range(times) {
-        return not_stored(refusal::MOMENT_RANGE);
+        return Err(Refusal::MomentRange);
     }
     if !pass_set::sizes_agree(counts, times.len(), freqs.len(), counts.len()) {
-        return not_stored(refusal::SIZES);
+        return Err(Refusal::Sizes);
     }
-    let at = 4 + 4 * counts.len();
-    let size = at + 16 * times.len();
+    let times_at = 4 + 4 * counts.len();
+    let freqs_at = times_at + 8 * times.len();
+    let size = freqs_at + 8 * freqs.len();
     if out.len() < size {
-        return not_stored(refusal::SHORT_MEMORY);
+        return Err(Refusal::ShortMemory);
     }
-    number::put_word(out, 0, counts.len() as u64);
-    arrays::store_counts(counts, out, 4);
-    arrays::store_times(times, out, at);
-    arrays::store_freqs(freqs, out, at + 8 * times.len());
-    Stored { refusal: 0, size }
+    out[..4].copy_from_slice(&(counts.len() as u32).to_le_bytes());
+    arrays::store(counts, &mut out[4..times_at]);
+    arrays::store(times, &mut out[times_at..freqs_at]);
+    arrays::store(freqs, &mut out[freqs_at..size]);
+    Ok(size)
 }
