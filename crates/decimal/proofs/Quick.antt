@@ -3,7 +3,7 @@ use mathlib.Core.Path.{◌≡◌, refl, sym, ap, ◌∙◌}
 use mathlib.Core.Logic.{inl, inr}
 use mathlib.Core.Bool.{true}
 use Prim.Native.Nat.{ℕ, suc, ◌+◌, ◌-◌, ◌*◌, ◌/◌, ◌%◌, ◌^◌, ◌≤◌, ◌<◌, compare}
-use native.Mathlib.Nat.{le_trans, le_of_eq, le_of_lt, lt_of_lt_of_le, lt_of_le_of_lt, mod-lt, div-add-mod', div-le_self, add-mul, add_assoc, mul-one, mul_assoc, mul_comm, mul_left_comm, mul_right_comm, mul-le-mul_right, mul-lt-mul_of_pos_right, le-div_iff_mul-le, div-lt_iff_lt-mul, le-mul_of_pos_right, eq-zero-or-pos}
+use native.Mathlib.Nat.{le_trans, le_of_eq, lt_of_lt_of_le, lt_of_le_of_lt, mod-lt, div-add-mod', div-le_self, add-mul, add_assoc, mul-one, mul_assoc, mul_comm, mul_left_comm, mul_right_comm, mul-le-mul_right, mul-lt-mul_of_pos_right, le-div_iff_mul-le, div-lt_iff_lt-mul, eq-zero-or-pos}
 use native.Mathlib.Omega.{arith}
 use lib.Count.{count_leading_zeros, leading_of_zero, leading_top, leading_length}
 use lib.Pow.{pow-add, pow_pos, pow_mono, shl_lt}
@@ -27,18 +27,6 @@ module _ (d b p : ℕ) (B : 0 < b) where
 
   pub by_parts : closest (d * p) b ≡ nearest (d / b * p + d % b * p / b) (compare (d % b * p % b * 2) b)
   by_parts = ap (λ (x : ℕ). closest x b) parts ∙ closest_at (d / b * p + d % b * p / b) b (d % b * p % b) (mod-lt (d % b * p) B)
-
-  pub rest_fits : b * p ≤ 2 ^ 63 → d % b * p ≤ 2 ^ 63
-  rest_fits h = le_trans (mul-le-mul_right p (le_of_lt (mod-lt d B))) h
-
-  pub last_fits : 0 < p → b * p ≤ 2 ^ 63 → d % b * p % b * 2 < 2 ^ 64
-  last_fits P h =
-      let l : d % b * p % b < b = mod-lt (d % b * p) B in
-      let m : b ≤ b * p = le-mul_of_pos_right b P in
-      less (d % b * p % b) b (b * p) l m h
-    where
-      less : (x y z : ℕ) → x < y → y ≤ z → z ≤ 2 ^ 63 → x * 2 < 2 ^ 64
-      less x y z l m h = omega arith
 
 -- ---- how far p moves
 regroup : (c b x y w : ℕ) → c * b * (x * (y * w)) ≡ c * x * y * b * w

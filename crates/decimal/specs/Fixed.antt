@@ -28,6 +28,10 @@ unfoldable pub fixed_text : ℕ → ℕ → ℕ → ℕ → List ℕ
 fixed_text pad p n zero = []
 fixed_text pad p n (suc w) = cell_at pad p n w ∷ fixed_text pad p n w
 
+-- v is within, and w columns from `at` of a slice of n bytes are there, enough for p places, 8 at most
+unfoldable pub fits : Float → ℕ → ℕ → ℕ → ℕ → Bool
+fits v p w at n = within v && (leb p 8 && (leb (p + 2) w && (leb w 16 && (leb at n && leb w (n - at)))))
+
 -- v prints with p places, 8 at most, in w columns from `at` of a slice of n bytes: no digit is cut off, and the columns are there
 unfoldable pub printable : Float → ℕ → ℕ → ℕ → ℕ → Bool
 printable v p w at n =

@@ -4,6 +4,3 @@ use Rattle.decimal.proofs.fixed.digit.Goals as goal
 
 pub nonzero_div-result : goal.nonzero_div-result
 nonzero_div-result c = rw c.power.ensures (ten_pos c.args.i)
-
-pub returns : goal.returns
-returns c = rw c.power.ensures

@@ -50,9 +50,6 @@ overflow_mul-high c = omega (arith, cols (goal.at.overflow_mul-high c).Start)
 pub overflow_add-high : goal.overflow_add-high
 overflow_add-high c = omega (arith, cols (goal.at.overflow_add-high c).Start)
 
-pub overflow_add-rest : goal.overflow_add-rest
-overflow_add-rest c = omega arith
-
 pub overflow_mul-high-2 : goal.overflow_mul-high-2
 overflow_mul-high-2 c = omega (arith, cols (goal.at.overflow_mul-high-2 c).Start)
 

@@ -7,7 +7,9 @@ use mathlib.Core.Bool.{Bool, true, cond}
 use lib.Dec.{lit<}
 use lib.Ieee.{binary64, round, of_bits, nearest}
 use lib.Ieee.Nearest.{closest}
+use Rattle.decimal.specs.Rounding.{order}
 use Rattle.decimal.specs.Wide.{val}
+use Rattle.decimal.proofs.Ordered.{cmp_val}
 use Rattle.decimal.proofs.Round.{closest_at, ten_pos}
 use Rattle.decimal.proofs.Near.{round_bits, closest_le}
 use Rattle.decimal.proofs.Doubling.{tens_small, one_small, scaled_same, scaled_lo, scaled_hi, doubled_pos}
@@ -38,10 +40,11 @@ all c =
     let l = c.lowered-low in
     let m = c.tens-m in
     let n = c.tens-n in
-    let M = lt_of_lt_of_le (mul-pos {m = 1} {n = 10 ^ c.args.down} (lit< tt) (ten_pos c.args.down)) (le_of_eq (sym m.ensures.1)) in
+    let M = lt_of_lt_of_le (mul-pos {m = 1} {n = 10 ^ c.args.down} (lit< tt) (ten_pos c.args.down)) (le_of_eq (sym m.ensures)) in
     found (val n.result) (val m.result) (val h.result.x) (val l.result.x) l.result.k h.result.k g.result.q (val g.result.r) c.rounded-q.result
-    l.ensures.4 l.ensures.5 M (doubled_pos (val m.result) (l.result.k - 1022) (val l.result.x) M l.ensures.3) l.ensures.3 h.ensures.3 h.ensures.4 h.ensures.1 h.ensures.2
-    g.ensures.1 g.ensures.2 c.rounded-q.ensures
+    l.ensures.3 l.ensures.4 M (doubled_pos (val m.result) (l.result.k - 1022) (val l.result.x) M l.ensures.2) l.ensures.2 h.ensures.2 h.ensures.3 h.ensures.0 h.ensures.1
+    g.ensures.0 g.ensures.1
+    (c.rounded-q.ensures ∙ ap (nearest g.result.q) (ap order c.cmp.ensures ∙ cmp_val c.times.result l.result.x ∙ ap (λ (x : ℕ). compare x (val l.result.x)) c.times.ensures))
 
 pub tens-n-requires : goal.tens-n-requires
 tens-n-requires c = tens_small c.args.d c.args.up c.ranges.d.fits c.requires.1
@@ -53,18 +56,16 @@ pub lowered-low-requires : goal.lowered-low-requires
 lowered-low-requires c =
     let n = c.tens-n in
     let m = c.tens-m in (
-      n.ensures.0,
-      m.ensures.0,
-      lt_of_le_of_lt (le_of_eq n.ensures.1) (tens_small c.args.d c.args.up c.ranges.d.fits c.requires.1),
-      lt_of_lt_of_le (mul-pos {m = 1} {n = 10 ^ c.args.down} (lit< tt) (ten_pos c.args.down)) (le_of_eq (sym m.ensures.1)),
-      lt_of_le_of_lt (le_of_eq m.ensures.1) (one_small c.args.down c.requires.2),
+      lt_of_le_of_lt (le_of_eq n.ensures) (tens_small c.args.d c.args.up c.ranges.d.fits c.requires.1),
+      lt_of_lt_of_le (mul-pos {m = 1} {n = 10 ^ c.args.down} (lit< tt) (ten_pos c.args.down)) (le_of_eq (sym m.ensures)),
+      lt_of_le_of_lt (le_of_eq m.ensures) (one_small c.args.down c.requires.2),
     )
 
 pub raised-high-requires : goal.raised-high-requires
 raised-high-requires c =
     let n = c.tens-n in
     let l = c.lowered-low in
-    (n.ensures.0, l.ensures.0, lt_of_lt_of_le (mul-pos c.requires.0 (ten_pos c.args.up)) (le_of_eq (sym n.ensures.1)), l.ensures.2, l.ensures.1, l.ensures.4, l.ensures.5)
+    (lt_of_lt_of_le (mul-pos c.requires.0 (ten_pos c.args.up)) (le_of_eq (sym n.ensures)), l.ensures.1, l.ensures.0, l.ensures.3, l.ensures.4)
 
 pub overflow_add-result : goal.overflow_add-result
 overflow_add-result c = omega (arith, (all (goal.at.overflow_add-result c).After-rounded-q).0)
@@ -75,5 +76,5 @@ returns c =
     let n = c.tens-n in
     record {
       small = (all (goal.at.returns c).After-rounded-q).0;
-      is = λ s. (λ i. round binary64 s (sym n.ensures.1 i) (sym (m.ensures.1 ∙ one-mul (10 ^ c.args.down)) i)) ∙ (all (goal.at.returns c).After-rounded-q).1 s;
+      is = λ s. (λ i. round binary64 s (sym n.ensures i) (sym (m.ensures ∙ one-mul (10 ^ c.args.down)) i)) ∙ (all (goal.at.returns c).After-rounded-q).1 s;
     }

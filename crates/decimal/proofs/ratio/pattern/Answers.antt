@@ -26,6 +26,3 @@ returns-then-d-eq0 c =
           ∙ round_zero s (10 ^ a.down) (ten_pos a.down)
           ∙ zero_bits s;
     }
-
-pub returns-then-r-ne0 : goal.returns-then-r-ne0
-returns-then-r-ne0 c = c.quick-r.ensures c.if-r-ne0.true

@@ -28,45 +28,24 @@ shift : (z : ℕ) → z ≤ 63 → 1 * 2 ^ (z - 11) % 2 ^ 64 ≡ 2 ^ (z - 11)
 shift z upper = one_shl (z - 11) (omega arith)
 
 done : (c : After-moved)
-    → Pattern c.args.d 0 (c.args.down - c.args.up) ((1074 - c.room-j.result - (zeros c.args.d c.room-j.result c.power-b.result - 11)) * 2 ^ 52 + c.moved.result)
+    → Pattern c.args.d 0 (c.in_ok-k.k) ((1074 - c.room-j.result - (zeros c.args.d c.room-j.result c.power-b.result - 11)) * 2 ^ 52 + c.moved.result)
 done c =
     let d = c.args.d in
     let j = c.room-j.result in
     let b = c.power-b.result in
     let z = zeros d j b in
     let P : 0 < b = lt_of_lt_of_le (ten_pos _) (le_of_eq (sym c.power-b.ensures)) in
-    subst (λ (q : ℕ). Pattern d 0 (c.args.down - c.args.up) ((1074 - j - (z - 11)) * 2 ^ 52 + q)) (sym (c.moved.ensures ∙ ap (λ (p : ℕ). closest (dividend d j * p) b) (shift z c.if-z-gt63.false)))
-    (made (dividend d j) b z (mod-lt _ (lit< tt)) P refl c.if-z-lt11.false c.if-z-gt63.false d j (mod-eq_of_lt c.room-j.ensures.1) c.room-j.ensures.0 (c.args.down - c.args.up) c.power-b.ensures)
-
-pub returns-then-down-up : goal.returns-then-down-up
-returns-then-down-up c = λ n. absurd (n refl)
-
-pub returns-then-k-gt19 : goal.returns-then-k-gt19
-returns-then-k-gt19 c = λ n. absurd (n refl)
+    subst (λ (q : ℕ). Pattern d 0 (c.in_ok-k.k) ((1074 - j - (z - 11)) * 2 ^ 52 + q)) (sym (c.moved.ensures ∙ ap (λ (p : ℕ). closest (dividend d j * p) b) (shift z c.if-z-gt63.false)))
+    (made (dividend d j) b z (mod-lt _ (lit< tt)) P refl c.if-z-lt11.false c.if-z-gt63.false d j (mod-eq_of_lt c.room-j.ensures.1) c.room-j.ensures.0 (c.in_ok-k.k) c.power-b.ensures)
 
 pub room-j-requires : goal.room-j-requires
 room-j-requires c = positive (goal.at.room-j-requires c).After-power-b
 
-pub overflow_shl-e : goal.overflow_shl-e
-overflow_shl-e c = omega (arith, c.room-j.ensures.0)
-
 pub nonzero_div-z : goal.nonzero_div-z
 nonzero_div-z c = positive (goal.at.nonzero_div-z c).After-power-b
 
-pub returns-then-z-lt11 : goal.returns-then-z-lt11
-returns-then-z-lt11 c = λ n. absurd (n refl)
-
-pub returns-then-z-gt63 : goal.returns-then-z-gt63
-returns-then-z-gt63 c = λ n. absurd (n refl)
-
 pub nonzero_div-p : goal.nonzero_div-p
 nonzero_div-p c = rw (shift (zeros c.args.d c.room-j.result c.power-b.result) c.if-z-gt63.false) (pow_pos _)
-
-pub returns-then-p-b : goal.returns-then-p-b
-returns-then-p-b c = λ n. absurd (n refl)
-
-pub overflow_sub-result-2 : goal.overflow_sub-result-2
-overflow_sub-result-2 c = omega (arith, c.room-j.ensures.0, c.if-z-gt63.false)
 
 pub moved-requires : goal.moved-requires
 moved-requires c =
@@ -85,6 +64,9 @@ moved-requires c =
 pub overflow_add-result : goal.overflow_add-result
 overflow_add-result c = omega (arith, (done (goal.at.overflow_add-result c).After-moved).small)
 
+-- k is what `down` has over `up`
+over : (d up down k r : ℕ) → up ≤ down → k ≡ down - up → Pattern d 0 k r → Pattern d up down r
+over d up down k r h e p = lifted d up down r h (subst (λ (n : ℕ). Pattern d 0 n r) e p)
+
 pub returns : goal.returns
-returns c = λ _.
-    lifted c.args.d c.args.up c.args.down _ c.if-down-up.false (done (goal.at.returns c).After-moved)
+returns c = let k = c.in_ok-k.ensures in over c.args.d c.args.up c.args.down c.in_ok-k.k _ k.0 k.1 (done (goal.at.returns c).After-moved)
