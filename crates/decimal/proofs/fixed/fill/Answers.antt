@@ -1,32 +1,64 @@
 -- `decimal::fixed::fill` meets its contract: what is still to be stored, on what is stored, is the whole. Assumes nothing.
-use mathlib.Core.Path.{◌≡◌, ap, ◌∙◌}
-use mathlib.Core.List.{List}
-use Prim.Native.Nat.{ℕ, suc, ◌+◌, ◌-◌, ◌<◌}
+use mathlib.Core.Path.{◌≡◌, refl, sym, ap, ◌∙◌}
+use mathlib.Core.List.{List, ◌++◌, append-nil, append_assoc}
+use Prim.Native.Nat.{ℕ, zero, suc, ◌+◌, ◌-◌, ◌≤◌, ◌<◌}
+use native.Mathlib.Nat.{sub-zero}
+use native.Mathlib.Numerals.{add-one}
 use native.Mathlib.Omega.{arith}
-use lib.ListN.{set, length-set}
-use lib.Seq.{sets}
+use lib.ListN.{length, set, take, drop, length-set, length-drop, drop_of_length-le}
+use lib.Seq.{sets, sets-eq, drop-drop, length-take-le}
+use borrow.Rule.Slice.PartMut.{put_mid}
 use Rattle.decimal.specs.Fixed.{fixed_text, cell_at}
 use Rattle.decimal.proofs.fixed.fill.Goals as goal
 
 -- one column is stored, and the rest is to be
-step : (out : List ℕ) (at k pad p n x w : ℕ) → k < w → x ≡ cell_at pad p n (w - 1 - k) → sets (set out (at + k) x) (at + (k + 1)) (fixed_text pad p n (w - (k + 1))) ≡ sets out (at + k) (fixed_text pad p n (w - k))
+step : (out : List ℕ) (k pad p n x w : ℕ) → k < w → x ≡ cell_at pad p n (w - 1 - k) → sets (set out k x) (k + 1) (fixed_text pad p n (w - (k + 1))) ≡ sets out k (fixed_text pad p n (w - k))
 unfolding fixed_text
-step out at k pad p n x w h e =
+step out k pad p n x w h e =
     let l : w - k ≡ suc (w - (k + 1)) = omega arith in
     let m : w - 1 - k ≡ w - (k + 1) = omega arith in
-    let i : at + (k + 1) ≡ suc (at + k) = omega arith in
-    rw (l, e, m, i)
+    rw (l, e, m, add-one)
+
+text_length : (pad p n w : ℕ) → length (fixed_text pad p n w) ≡ w
+unfolding fixed_text
+text_length pad p n zero = refl
+text_length pad p n (suc w) = ap suc (text_length pad p n w)
+
+sets_all : (vs out : List ℕ) → length out ≡ length vs → sets out 0 vs ≡ vs
+sets_all vs out e = sets-eq vs out 0 (omega arith) ∙ ap (λ (r : List ℕ). vs ++ r) (drop_of_length-le out (omega arith)) ∙ append-nil vs
+
+-- the columns that are lent
+part_length : (out : List ℕ) (at w : ℕ) → at + w ≤ length out → length (take (at + w - at) (drop at out)) ≡ w
+part_length out at w h = length-take-le (at + w - at) (drop at out) (omega (arith, length-drop at out)) ∙ omega arith
+
+-- and given back
+put_back : (out vs : List ℕ) (at w : ℕ) → length vs ≡ w → at + w ≤ length out → put_mid at (at + w - at) out vs ≡ sets out at vs
+put_back out vs at w e h =
+    let n : at + (at + w - at) ≡ at + length vs = omega arith in
+    ap (λ (r : List ℕ). take at out ++ (vs ++ r)) (drop-drop (at + w - at) at out ∙ ap (λ (k : ℕ). drop k out) n)
+    ∙ sym (append_assoc (take at out) vs (drop (at + length vs) out))
+    ∙ sym (sets-eq vs out at (omega arith))
+
+begun : (out : List ℕ) (pad p n w : ℕ) → length out ≡ w → sets out 0 (fixed_text pad p n (w - 0)) ≡ fixed_text pad p n w
+begun out pad p n w e = ap (λ (k : ℕ). sets out 0 (fixed_text pad p n k)) (sub-zero w) ∙ sets_all (fixed_text pad p n w) out (e ∙ sym (text_length pad p n w))
+
+pub loop-k-init : goal.loop-k-init
+loop-k-init c =
+    let a = c.args in
+    let l = part_length a.out.now a.at a.width c.requires.0 in
+    (l, begun _ a.pad a.places a.n a.width l)
 
 pub loop-k-preserved : goal.loop-k-preserved
 loop-k-preserved c =
     let l = c.loop-k in
     let a = c.args in
-    (simp length-set l.invariant.0, step l.out a.at l.k a.pad a.places a.n c.cell.result a.width c.loop-k-test.true c.cell.ensures ∙ l.invariant.1)
+    (simp length-set l.invariant.0, step l.column-items l.k a.pad a.places a.n c.cell.result a.width (omega (arith, part_length a.out.now a.at a.width c.requires.0)) c.cell.ensures ∙ l.invariant.1)
 
 pub returns : goal.returns
 unfolding fixed_text
 returns c =
     let l = c.loop-k in
     let a = c.args in
-    let z : 0 ≡ a.width - l.k = omega arith in
-    ap (λ (k : ℕ). sets l.out (a.at + l.k) (fixed_text a.pad a.places a.n k)) z ∙ l.invariant.1
+    let z : 0 ≡ a.width - l.k = omega (arith, part_length a.out.now a.at a.width c.requires.0) in
+    put_back a.out.now l.column-items a.at a.width l.invariant.0 c.requires.0
+    ∙ ap (sets a.out.now a.at) (ap (λ (k : ℕ). sets l.column-items l.k (fixed_text a.pad a.places a.n k)) z ∙ l.invariant.1)

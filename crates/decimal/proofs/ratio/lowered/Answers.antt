@@ -32,11 +32,11 @@ loop-n-preserved c = (
   c.times-t.ensures ∙ doubled (val c.args.m) c.loop-n.k 1022 (val c.loop-n.x) c.loop-n.invariant.1 c.loop-n.invariant.2,
 )
 
-pub returns : goal.returns
-returns c = (
+pub returns-then-lt : goal.returns-then-lt
+returns-then-lt c = (
   c.loop-n.invariant.0,
   lt_of_lt_of_le (below c.args.n c.times-t.result c.lt.ensures c.if-lt.true) (le_of_eq c.times-t.ensures),
   c.loop-n.invariant.2,
   c.loop-n.invariant.1,
-  omega (arith, few (goal.at.returns c).At-loop-n),
+  omega (arith, few (goal.at.returns-then-lt c).At-loop-n),
 )
