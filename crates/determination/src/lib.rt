@@ -105,27 +105,24 @@ pub fn fit_and_format_stored(
     let mut counts = [0u32; MAX_PASSES];
     let mut times = [0i64; MAX_SAMPLES];
     let mut freqs = [0.0; MAX_SAMPLES];
-    let set = stored::load(bytes, &mut counts, &mut times, &mut freqs);
-    if set.refusal != 0 {
-        return unprinted(fit::refused(set.refusal));
+    match stored::load(bytes, &mut counts, &mut times, &mut freqs) {
+        Ok(set) => fit_and_format(
+            &counts[..set.passes],
+            &times[..set.samples],
+            &freqs[..set.samples],
+            centers,
+            rec_ecef,
+            initial_a,
+            initial_i,
+            dts,
+            dfs,
+            df1s,
+            df2s,
+            log,
+            scratch,
+            name,
+            text,
+        ),
+        Err(refusal) => unprinted(fit::refused(refusal.number())),
     }
-    let p = set.passes;
-    let s = set.samples;
-    fit_and_format(
-        &counts[..p],
-        &times[..s],
-        &freqs[..s],
-        centers,
-        rec_ecef,
-        initial_a,
-        initial_i,
-        dts,
-        dfs,
-        df1s,
-        df2s,
-        log,
-        scratch,
-        name,
-        text,
-    )
 }

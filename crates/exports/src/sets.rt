@@ -13,10 +13,18 @@ pub extern "C" fn wisvalom_load(
     ensures { LoadsTo b.now counts.old counts.new times.old times.new freqs.old freqs.new
         passes.new samples.new result }
 {
-    let answer = stored::load(b, counts, times, freqs);
-    *passes = answer.passes;
-    *samples = answer.samples;
-    answer.refusal
+    match stored::load(b, counts, times, freqs) {
+        Ok(set) => {
+            *passes = set.passes;
+            *samples = set.samples;
+            0
+        }
+        Err(refusal) => {
+            *passes = 0;
+            *samples = 0;
+            refusal.number()
+        }
+    }
 }
 
 #[unsafe(no_mangle)]
@@ -29,7 +37,14 @@ pub extern "C" fn wisvalom_store(
 ) -> u32
     ensures { StoresTo counts.now times.now freqs.now out.old out.new size.new result }
 {
-    let answer = stored::store(counts, times, freqs, out);
-    *size = answer.size;
-    answer.refusal
+    match stored::store(counts, times, freqs, out) {
+        Ok(stored) => {
+            *size = stored;
+            0
+        }
+        Err(refusal) => {
+            *size = 0;
+            refusal.number()
+        }
+    }
 }

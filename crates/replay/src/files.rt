@@ -89,23 +89,19 @@ fn pass_set(bytes: &[u8], answer: &[u8]) -> bool {
     let mut counts = [0u32; 16];
     let mut times = rooms::times();
     let mut freqs = rooms::freqs();
-    let r = stored::load(bytes, &mut counts, &mut times, &mut freqs);
-    let refusal = r.refusal;
-    if !answer_lines::refused(answer, refusal) {
-        return false;
-    }
-    if refusal != 0 {
-        return true;
-    }
-    let n = r.passes;
-    if 16 < n {
+    let set = match stored::load(bytes, &mut counts, &mut times, &mut freqs) {
+        Ok(set) => set,
+        Err(refusal) => return answer_lines::refused(answer, refusal.number()),
+    };
+    let n = set.passes;
+    if 16 < n || !answer_lines::refused(answer, 0) {
         return false;
     }
     let list = answer_lines::from(answer, 1);
     if !answer_lines::same_counts(list, n, &counts) {
         return false;
     }
-    same_samples(answer_lines::from(list, 1 + n), r.samples, &times, &freqs)
+    same_samples(answer_lines::from(list, 1 + n), set.samples, &times, &freqs)
 }
 
 // The bytes that begin at field k of those asked, where a line of this word has them.
