@@ -26,7 +26,8 @@ use Rattle.arguments.specs.Refusals.{least_a, most_a, nan_argument, out_of_range
 use Rattle.fit.specs.Answer.{fit_refusal}
 use Rattle.tle.specs.Lines.{weight_sum, checksum_of}
 use Rattle.determination.specs.Table as document
-use Rattle.determination.specs.Table.{Hold, whole, number}
+use Rattle.determination.specs.Table.{Hold, whole}
+use Rattle.refusal.specs.Refusals.{number_or_zero}
 
 -- the digit maps and the systems of one row, each by a computation of its own
 monna_up : monna_map_of 6 2 ≡ Ok (decimal 375 3)
@@ -45,11 +46,11 @@ eight_apart : p_adic_distance_of 0 8 2 ≡ Ok (decimal 125 3)
 unfolding p_adic_distance_of base_refusal distance_of valuation times raised one of_bits round of_int mul div
 eight_apart = refl
 
-solves : number (linear.system_refusal 1 (decimal 1 12 ∷ []) (whole 1 ∷ []) 1 2) ≡ 0
+solves : number_or_zero (linear.system_refusal 1 (decimal 1 12 ∷ []) (whole 1 ∷ []) 1 2) ≡ 0
 unfolding of_bits round add sub mul div neg lt eq for turns rev try tried abs_of one two least_pivot larger_pivot pivot_row swap_entries swap_rows eliminate_entry eliminate_row eliminate_below reduce_column forward_elimination add_term substitute_row back_substitution augment_entry augment_row augmented solution_of linear.system_refusal
 solves = refl
 
-refuses : number (linear.system_refusal 1 (decimal 5 13 ∷ []) (whole 1 ∷ []) 1 2) ≡ 22
+refuses : number_or_zero (linear.system_refusal 1 (decimal 5 13 ∷ []) (whole 1 ∷ []) 1 2) ≡ 22
 unfolding of_bits round add sub mul div neg lt eq for turns rev try tried abs_of one two least_pivot larger_pivot pivot_row swap_entries swap_rows eliminate_entry eliminate_row eliminate_below reduce_column forward_elimination add_term substitute_row back_substitution augment_entry augment_row augmented solution_of linear.system_refusal
 refuses = refl
 

@@ -6,7 +6,7 @@ use Rattle.float.specs.Constant.{decimal}
 use Rattle.moment.specs.Time.{units_between}
 use Rattle.moment.specs.Sample.{sample_count}
 use Rattle.frame.specs.Julian.{datetime_to_jd_of}
-use Rattle.refusal.specs.Refusals.{number_of}
+use Rattle.refusal.specs.Refusals.{number_or_zero}
 use Rattle.refusal.specs.declared.Refusal.{Refusal}
 use Rattle.linear.specs.Elimination.{solution_of}
 use Rattle.linear.specs.Answer as linear
@@ -31,11 +31,6 @@ Hold ((a is b) ∷ rows) = (a ≡ b) × Hold rows
 -- a whole number
 abbrev pub whole : ℕ → Float
 whole n = decimal n 0
-
--- a refusal's number in the documents, 0 for none
-abbrev pub number : Option Refusal → ℕ
-number None = 0
-number (Some r) = number_of r
 
 -- S samples of 1970-01-01 in two passes, the first of three
 abbrev two_passes : ℕ → Arguments
@@ -66,8 +61,8 @@ table =
     ∷ (checksum_of (take 68 second_line) is 7)
     -- 1 by 1 systems with pivots 1e-12 and 5e-13
     ∷ (solution_of 1 (decimal 1 12 ∷ []) (decimal 1 12 ∷ []) is some (whole 1 ∷ []))
-    ∷ (number (linear.system_refusal 1 (decimal 1 12 ∷ []) (whole 1 ∷ []) 1 2) is 0)
-    ∷ (number (linear.system_refusal 1 (decimal 5 13 ∷ []) (whole 1 ∷ []) 1 2) is 22)
+    ∷ (number_or_zero (linear.system_refusal 1 (decimal 1 12 ∷ []) (whole 1 ∷ []) 1 2) is 0)
+    ∷ (number_or_zero (linear.system_refusal 1 (decimal 5 13 ∷ []) (whole 1 ∷ []) 1 2) is 22)
     -- P = 2 and S = 5, S = 6
     ∷ (fit_refusal (two_passes 5) no_room is 10)
     ∷ (fit_refusal (two_passes 6) no_room is 21)

@@ -9,18 +9,18 @@ use Rattle.refusal.specs.Refusals.{answer}
 use Rattle.refusal.specs.declared.Refusal.{Refusal}
 use Rattle.linear.specs.Answer.{Solves, system_refusal}
 use Rattle.monna.specs.Answers.{Differs, history_refusal}
-use Rattle.exports.specs.Refused.{refusal_number, answer_number}
+use Rattle.refusal.specs.Refusals.{number_or_zero, status_of}
 use Rattle.exports.specs.Systems.{SolvesTo}
 use Rattle.exports.specs.Maps.{DiffersTo}
 
-numbered : {A : Type 0} (r : Option Refusal) (a : A) → answer_number (answer r a) ≡ refusal_number r
+numbered : {A : Type 0} (r : Option Refusal) (a : A) → status_of (answer r a) ≡ number_or_zero r
 numbered None a = refl
 numbered (Some r) a = refl
 
-pub solves_to : (n : ℕ) (m v o o' s s' : List Float) (r : Result (Unit {0}) Refusal) (j : ℕ) → Solves n m v o o' s s' r → j ≡ answer_number r → SolvesTo n m v o o' s s' j
+pub solves_to : (n : ℕ) (m v o o' s s' : List Float) (r : Result (Unit {0}) Refusal) (j : ℕ) → Solves n m v o o' s s' r → j ≡ status_of r → SolvesTo n m v o o' s s' j
 solves_to n m v o o' s s' r j w e =
-    record { answer = e ∙ ap answer_number w.answer ∙ numbered (system_refusal n m v (length o) (length s)) tt; out = w.out; scratch = w.scratch }
+    record { answer = e ∙ ap status_of w.answer ∙ numbered (system_refusal n m v (length o) (length s)) tt; out = w.out; scratch = w.scratch }
 
-pub differs_to : (x o o' : List Float) (r : Result (Unit {0}) Refusal) (j : ℕ) → Differs x o o' r → j ≡ answer_number r → DiffersTo x o o' j
+pub differs_to : (x o o' : List Float) (r : Result (Unit {0}) Refusal) (j : ℕ) → Differs x o o' r → j ≡ status_of r → DiffersTo x o o' j
 differs_to x o o' r j d e =
-    record { answered = e ∙ ap answer_number d.answered ∙ numbered (history_refusal (length x) (length o)) tt; out = d.out }
+    record { answered = e ∙ ap status_of d.answered ∙ numbered (history_refusal (length x) (length o)) tt; out = d.out }

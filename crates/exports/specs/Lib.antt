@@ -5,7 +5,6 @@ pub mod Elements
 pub mod Files
 pub mod Fits
 pub mod Maps
-pub mod Refused
 pub mod Sets
 pub mod Sums
 pub mod Systems

@@ -2,8 +2,8 @@
 -- written.
 use Rattle.std.specs.Prelude.{◌≡◌, ℕ, List, length, Float}
 use Rattle.monna.specs.Answers.{history_refusal, history_out}
-use Rattle.exports.specs.Refused.{refusal_number}
+use Rattle.refusal.specs.Refusals.{number_or_zero}
 
 pub record DiffersTo (x o o' : List Float) (r : ℕ) : Type 0 where
-  pub answered : r ≡ refusal_number (history_refusal (length x) (length o))
+  pub answered : r ≡ number_or_zero (history_refusal (length x) (length o))
   pub out : o' ≡ history_out (history_refusal (length x) (length o)) x o

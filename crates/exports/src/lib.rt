@@ -10,7 +10,6 @@ pub mod files;
 pub mod fits;
 pub mod floats;
 pub mod maps;
-mod refused;
 pub mod sets;
 pub mod sums;
 pub mod systems;

@@ -1,7 +1,6 @@
 // Elimination.
 ghost use Rattle.exports.specs.Systems.{SolvesTo};
 
-use crate::refused;
 
 #[unsafe(no_mangle)]
 pub extern "C" fn wisvalom_solve_linear_system(
@@ -14,5 +13,5 @@ pub extern "C" fn wisvalom_solve_linear_system(
     ensures { SolvesTo n matrix.now vector.now out.old out.new
         scratch.old scratch.new result }
 {
-    refused::number(linear::solve_linear_system(matrix, vector, n, out, scratch))
+    refusal::status(linear::solve_linear_system(matrix, vector, n, out, scratch))
 }

@@ -42,6 +42,11 @@ abbrev pub first_of : List Check → Option Refusal
 first_of [] = None
 first_of (c ∷ cs) = cond c.condition (Some c.refusal) (first_of cs)
 
+-- its number, or 0 where there is none
+abbrev pub number_or_zero : Option Refusal → ℕ
+number_or_zero None = 0
+number_or_zero (Some r) = number_of r
+
 -- a call's answer: refused, or this one
 abbrev pub answer : {A : Type 0} → Option Refusal → A → Result A Refusal
 answer None a = Ok a

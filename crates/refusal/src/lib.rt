@@ -62,7 +62,17 @@ impl Refusal {
     }
 }
 
-// An answer as other languages get it: 0, with its value in `out`; or the refusal's number, with `out` as it was.
+// An answer as other languages get it: 0, or the refusal's number.
+pub fn status(answer: Result<(), Refusal>) -> u32
+    ensures { result ≡ status_of answer }
+{
+    match answer {
+        Ok(()) => 0,
+        Err(r) => r.number(),
+    }
+}
+
+// The same with the value in `out`, which stays as it was where the answer is a refusal.
 pub fn report<T: Copy>(answer: Result<T, Refusal>, out: &mut T) -> u32
     ensures value { result ≡ status_of answer }
     ensures out_after { out.new ≡ left_by out.old answer }
