@@ -74,7 +74,7 @@ fn moment_at(times: &[i64], k: usize) -> Moment
 fn frequency(p: Result<f64, Refusal>) -> f64
     ensures { result ≡ frequency_of p }
 {
-    p.unwrap_or(0.0 / 0.0)
+    p.unwrap_or(f64::NAN)
 }
 
 fn residual(g: Fitted, b: Pass, m: Moment, f: f64) -> f64

@@ -1,9 +1,16 @@
 -- `frequency` meets its contract. Assumes nothing.
-use Rattle.std.proofs.Common.{sym, ap}
-use lib.Ieee.{of_bits, div}
+use Rattle.std.proofs.Common.{◌≡◌, Result, Ok, Err, refl, ◌∙◌}
+use Rattle.std.specs.Result.{result_unwrap_or}
+use Rattle.std.specs.Float.{binary64}
+use Rattle.std.specs.Float.Ieee.{Float, of_bits}
+use Rattle.refusal.specs.declared.Refusal.{Refusal}
 use Rattle.orbit.specs.Doppler.{frequency_of}
 use Rattle.command.proofs.report.frequency.Goals as goal
 
-pub returns-in-Refused : goal.returns-in-Refused
-unfolding of_bits div
-returns-in-Refused c = sym (ap frequency_of c.in-Refused.is)
+by_case : (p : Result Float Refusal) → result_unwrap_or p (of_bits binary64 0x7ff8000000000000) ≡ frequency_of p
+unfolding of_bits
+by_case (Ok v) = refl
+by_case (Err r) = refl
+
+pub returns : goal.returns
+returns c = c.unwrap_or.ensures ∙ by_case c.args.p
