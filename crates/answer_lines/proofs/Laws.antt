@@ -1,99 +1,99 @@
 -- Walking a line, and cutting parts out of it. Assumes nothing.
 use mathlib.Core.Path.{◌≡◌, refl, sym, ap, ◌∙◌, subst}
-use mathlib.Core.Bool.{Bool, true, false, cond}
-use mathlib.Core.List.{List, ◌∷◌}
-use Prim.Native.Nat.{ℕ, suc, ◌+◌, ◌-◌, ◌*◌, ◌/◌, ◌≤◌, ◌<◌}
-use native.Mathlib.Nat.{le_of_eq}
+use mathlib.Core.Bool.{Bool, true, false, not, ◌&&◌, ◌||◌, cond}
+use mathlib.Core.List.{List, [], ◌∷◌}
+use Prim.Native.Nat.{ℕ, suc, ◌+◌, ◌-◌, ◌*◌, ◌≤◌, ◌<◌, min}
+use native.Mathlib.Nat.{le_of_lt, min-eq_left, min-eq_right}
 use native.Mathlib.Omega.{arith}
-use lib.Dec.{eqb}
-use lib.ListN.{length, get_or, set, take, drop, length-drop, length-set, drop_of_length-le}
-use lib.Seq.{drop-cons, drop-length, get_or-set_same, get_or-set_other}
-use lib.IntN.{ℤ, pos, negsuc, ◌-ℤ◌}
+use lib.Dec.{eqb, ltb}
+use Rattle.std.proofs.Common.{Option, Some, None}
+use Rattle.std.specs.Option.{unwrap_or}
+use Rattle.std.specs.Cmp.Lexicographic.{pointwise}
+use Rattle.std.specs.List.{position_or_len, range_with_len, list_any, list_all, enumerate_from}
+use Rattle.std.proofs.lemmas.List.Sums.{prefix_len-le-length}
+use lib.ListN.{length, get_or, set, take, drop, length-set, drop_of_length-le}
+use lib.Seq.{get_or-set_same, get_or-set_other}
+use lib.IntN.{ℤ, pos}
 use lib.Ieee.{Float, nan}
-use mir.Syntax.{w64}
-use mir.Val.{SFits, to_z, of_z}
-use mir.ValLaws.{to_z-of_z, of_z-to_z}
-use borrow.Author.Tests.{eq-eqb, ne_eqb, eqb-true, eqb-false, lt-ltb, le-ltb}
-use Rattle.laws.proofs.Signed.{difference, small, difference_fits}
+use borrow.Author.Tests.{eq-eqb, ne_eqb, eqb-true, eqb-false, ltb-true, ltb-false, lt-ltb, le-ltb}
 use Rattle.laws.proofs.Lists.{rest}
-use Rattle.answer_lines.specs.Lines.{first_place, begins_with, line_word, occurs, OnlyWords, asked_fields, answer_fields, fields_from, after_list, field_at, float_field, count_field, signed_field, every, same_list, FilledBy, ReadsSet}
-
-here : {A : Type 0} (l : List A) (i : ℕ) (d : A) → i < length l → drop i l ≡ get_or l i d ∷ drop (i + 1) l
-here l i d h = let e : suc i ≡ i + 1 = omega arith in drop-cons l i d h ∙ ap (λ (k : ℕ). get_or l i d ∷ drop k l) e
+use Rattle.answer_lines.specs.Lines.{first_place, begins_with, line_word, occurs, OnlyWords, asked_fields, fields_from, after_list, field_at, float_field, count_field, signed_field, every, same_list, FilledBy, ReadsSet}
 
 -- ---- the first place of a byte
 
-module _ (b : ℕ) (l : List ℕ) (i : ℕ) where
-  pub place_here : i < length l → get_or l i 0 ≡ b → first_place b (drop i l) ≡ 0
-  unfolding first_place
-  place_here h e = ap (first_place b) (here l i 0 h) ∙ simp (eq-eqb (get_or l i 0) b e)
+place_is : (b : ℕ) (l : List ℕ) → first_place b l ≡ position_or_len (λ (c : ℕ). eqb c b) l
+unfolding first_place
+place_is b [] = refl
+place_is b (c ∷ l) = go (eqb c b) (place_is b l)
+  where
+    go : (x : Bool) → first_place b l ≡ position_or_len (λ (c : ℕ). eqb c b) l → cond x 0 (suc (first_place b l)) ≡ cond (not x) (1 + position_or_len (λ (c : ℕ). eqb c b) l) 0
+    go true h = refl
+    go false h = omega arith
 
-  pub place_next : i < length l → (get_or l i 0 ≡ b → ⊥) → first_place b (drop i l) ≡ suc (first_place b (drop (i + 1) l))
-  unfolding first_place
-  place_next h e = ap (first_place b) (here l i 0 h) ∙ simp (ne_eqb (get_or l i 0) b e)
+-- what `position` answers, or else the length
+pub found : (b : ℕ) (l : List ℕ) (r : Option ℕ) {k : ℕ} → r ≡ cond (ltb (position_or_len (λ (c : ℕ). eqb c b) l) (length l)) (Some (position_or_len (λ (c : ℕ). eqb c b) l)) None → k ≡ unwrap_or r (length l) → (k ≡ first_place b l) × (k ≤ length l)
+found b l r {k = k} e f =
+    let n = position_or_len (λ (c : ℕ). eqb c b) l in
+    let most = prefix_len-le-length (λ (c : ℕ). not (eqb c b)) l in
+    let is : k ≡ n = f ∙ ap (λ (o : Option ℕ). unwrap_or o (length l)) e ∙ go n most (ltb n (length l)) refl in
+    (is ∙ sym (place_is b l), omega arith)
+  where
+    go : (n : ℕ) → n ≤ length l → (x : Bool) → ltb n (length l) ≡ x → unwrap_or (cond x (Some n) None) (length l) ≡ n
+    go n h true q = refl
+    go n h false q = let k = ltb-false n (length l) q in omega arith
 
-  pub place_end : length l ≤ i → first_place b (drop i l) ≡ 0
-  unfolding first_place
-  place_end h = ap (first_place b) (drop_of_length-le l h)
+-- ---- a name at the beginning, and in a table
 
--- ---- a name in a table
+eqb_sym : (a b : ℕ) → eqb a b ≡ eqb b a
+eqb_sym a b = go (eqb b a) refl
+  where
+    go : (x : Bool) → eqb b a ≡ x → eqb a b ≡ x
+    go true q = eq-eqb a b (sym (eqb-true b a q))
+    go false q = ne_eqb a b (λ e. eqb-false b a q (sym e))
 
-module _ (name table : List ℕ) (i : ℕ) (h : i < length table) where
-  at_place : occurs name (drop i table) ≡ cond (begins_with name (drop i table)) true (occurs name (drop (i + 1) table))
-  unfolding occurs
-  at_place = rw (here table i 0 h)
+pub begins_is : (name line : List ℕ) → pointwise eqb name (take (length name) line) ≡ begins_with name line
+unfolding begins_with
+begins_is [] line = refl
+begins_is (c ∷ name) [] = refl
+begins_is (c ∷ name) (b ∷ line) = rw (eqb_sym c b, begins_is name line) (go (eqb b c))
+  where
+    go : (x : Bool) → (x && begins_with name line) ≡ cond x (begins_with name line) false
+    go true = refl
+    go false = refl
 
-  pub occurs_here : begins_with name (drop i table) ≡ true → occurs name (drop i table) ≡ true
-  occurs_here e = at_place ∙ rw e
-
-  pub occurs_next : begins_with name (drop i table) ≡ false → occurs name (drop i table) ≡ occurs name (drop (i + 1) table)
-  occurs_next e = at_place ∙ rw e
-
-pub occurs_end : (name table : List ℕ) (i : ℕ) → length table ≤ i → occurs name (drop i table) ≡ false
+-- any place of the table has it
+pub occurs_is : (name table : List ℕ) (test : ℕ → Bool) (k : ℕ) → ((i : ℕ) → test (k + i) ≡ begins_with name (drop i table)) → list_any test (range_with_len k (length table)) ≡ occurs name table
 unfolding occurs
-occurs_end name table i h = rw (drop_of_length-le table h)
+occurs_is name [] test k h = refl
+occurs_is name (c ∷ table) test k h =
+    let e : k ≡ k + 0 = omega arith in
+    rw (ap test e ∙ h 0, occurs_is name table test (k + 1) (λ i. ap test (next i) ∙ h (suc i))) (go (begins_with name (c ∷ table)))
+  where
+    next : (i : ℕ) → k + 1 + i ≡ k + suc i
+    next i = omega arith
 
--- ---- a name at the beginning
+    go : (x : Bool) → (x || occurs name table) ≡ cond x true (occurs name table)
+    go true = refl
+    go false = refl
 
-module _ (name line : List ℕ) (i : ℕ) where
-  pub begins_next : i < length name → i < length line → get_or line i 0 ≡ get_or name i 0 → begins_with (drop i name) (drop i line) ≡ begins_with (drop (i + 1) name) (drop (i + 1) line)
-  unfolding begins_with
-  begins_next g h e = rw (here name i 0 g, here line i 0 h) (simp (eq-eqb (get_or line i 0) (get_or name i 0) e))
+-- ---- a test of every element
 
-  pub begins_other : i < length name → i < length line → (get_or line i 0 ≡ get_or name i 0 → ⊥) → begins_with (drop i name) (drop i line) ≡ false
-  unfolding begins_with
-  begins_other g h e = rw (here name i 0 g, here line i 0 h) (simp (ne_eqb (get_or line i 0) (get_or name i 0) e))
-
-  pub begins_short : i < length name → length line ≤ i → begins_with (drop i name) (drop i line) ≡ false
-  unfolding begins_with
-  begins_short g h = rw (here name i 0 g, drop_of_length-le line h) refl
-
-  pub begins_end : length name ≤ i → begins_with (drop i name) (drop i line) ≡ true
-  unfolding begins_with
-  begins_end h = rw (drop_of_length-le name h) refl
-
--- ---- a test of every element: those from place i on decide
-
-pub record Testing {A : Type 0} (test : ℕ → A → Bool) (l : List A) (whole : Bool) (i : ℕ) : Type 0 where
-  pub turns : i ≤ length l
-  pub is : every test i (drop i l) ≡ whole
-
-module _ {A : Type 0} (test : ℕ → A → Bool) {l : List A} {whole : Bool} {i : ℕ} (r : Testing test l whole i) where
-  pub testing_next : (d : A) → i < length l → test i (get_or l i d) ≡ true → Testing test l whole (i + 1)
-  unfolding every
-  testing_next d h e = record { turns = omega (arith, h); is = sym (ap (every test i) (here l i d h) ∙ simp e) ∙ r.is }
-
-  pub testing_other : (d : A) → i < length l → test i (get_or l i d) ≡ false → false ≡ whole
-  unfolding every
-  testing_other d h e = sym (ap (every test i) (here l i d h) ∙ simp e) ∙ r.is
-
-  pub testing_end : length l ≤ i → true ≡ whole
-  unfolding every
-  testing_end h = sym (ap (every test i) (drop_of_length-le l h)) ∙ r.is
+pub every_is : {A : Type 0} (test : ℕ → A → Bool) (l : List A) (i : ℕ) → list_all (λ (p : ℕ × A). test p.0 p.1) (enumerate_from i l) ≡ every test i l
+unfolding every
+every_is test [] i = refl
+every_is test (x ∷ l) i = rw (every_is test l (i + 1)) (go (test i x))
+  where
+    go : (b : Bool) → (b && every test (i + 1) l) ≡ cond b (every test (i + 1) l) false
+    go true = refl
+    go false = refl
 
 -- ---- how many, and then each
 
 module _ {A : Type 0} (items : List ℕ → List A → Bool) (fields : List ℕ) (n : ℕ) (x : List A) where
+  pub same_size : {r : Bool} → field_at fields 0 ≡ n → n ≤ length x → r ≡ items (fields_from 1 fields) (take n x) → r ≡ same_list items fields n x
+  unfolding same_list
+  same_size h g e = simp (eq-eqb (field_at fields 0) n h, le-ltb (length x) n g) e
+
   pub other_size : (field_at fields 0 ≡ n → ⊥) → false ≡ same_list items fields n x
   unfolding same_list
   other_size h = simp (ne_eqb (field_at fields 0) n h)
@@ -102,48 +102,38 @@ module _ {A : Type 0} (items : List ℕ → List A → Bool) (fields : List ℕ)
   unfolding same_list
   too_few h g = simp (eq-eqb (field_at fields 0) n h, lt-ltb (length x) n g)
 
-  pub same_size : {r : Bool} → field_at fields 0 ≡ n → n ≤ length x → r ≡ items (fields_from 1 fields) (take n x) → r ≡ same_list items fields n x
-  unfolding same_list
-  same_size h g e = simp (eq-eqb (field_at fields 0) n h, le-ltb (length x) n g) e
-
 -- ---- parts
-
--- a place in what follows place a, counted from the beginning
-module _ (l : List ℕ) (a r : ℕ) (h : a ≤ length l) (g : r ≤ length (take (length l - a) (drop a l))) where
-  pub counted : a + r ≤ length l
-  counted = omega (arith, h, g, ap length (rest l a), length-drop a l)
 
 pub asked_is : (line : List ℕ) (e s : ℕ) → e ≡ first_place 61 line → s ≡ first_place 32 (take e line) → take (length (take e line) - s) (drop s (take e line)) ≡ asked_fields line
 unfolding asked_fields
 asked_is line e s p q = rest (take e line) s ∙ ap (λ (k : ℕ). drop k (take e line)) q ∙ ap (λ (k : ℕ). drop (first_place 32 (take k line)) (take k line)) p
 
-pub answer_is : (line : List ℕ) (e : ℕ) → e ≡ first_place 61 line → take (length line - (e + 1)) (drop (e + 1) line) ≡ answer_fields line
-unfolding answer_fields
-answer_is line e p = rest line (e + 1) ∙ ap (λ (k : ℕ). drop (k + 1) line) p
-
-pub no_answer : (line : List ℕ) (e : ℕ) → e ≡ first_place 61 line → e ≡ length line → take (length line - e) (drop e line) ≡ answer_fields line
-unfolding answer_fields
-no_answer line e p q =
-    let f : length line ≤ e + 1 = omega (arith, q) in
-    rest line e ∙ drop_of_length-le line (le_of_eq (sym q)) ∙ sym (drop_of_length-le line f) ∙ ap (λ (k : ℕ). drop (k + 1) line) p
-
-pub from_is : (l : List ℕ) (k : ℕ) → take (length l - 17 * k) (drop (17 * k) l) ≡ fields_from k l
-unfolding fields_from
-from_is l k = rest l (17 * k)
-
-pub past_is : (l : List ℕ) (k : ℕ) → length l / 17 < k → take (length l - length l) (drop (length l) l) ≡ fields_from k l
-unfolding fields_from
-past_is l k h = rest l (length l) ∙ drop-length l ∙ sym (drop_of_length-le l (long (length l) k h))
+-- what stands after no more than the whole
+drop_most : (n : ℕ) (l : List ℕ) {most : ℕ} → length l ≤ most → drop (min n most) l ≡ drop n l
+drop_most n l {most} h = go (ltb n most) refl
   where
-    long : (n k : ℕ) → n / 17 < k → n ≤ 17 * k
-    long n k h = omega arith
+    go : (x : Bool) → ltb n most ≡ x → drop (min n most) l ≡ drop n l
+    go true q = ap (λ (k : ℕ). drop k l) (min-eq_left (le_of_lt (ltb-true n most q)))
+    go false q =
+        let k = ltb-false n most q in
+        ap (λ (m : ℕ). drop m l) (min-eq_right k) ∙ drop_of_length-le l h ∙ sym (drop_of_length-le l (omega (arith, h, k)))
 
-pub past_list : (l : List ℕ) (n : ℕ) → n ≡ field_at l 0 → length l < n → take (length l - length l) (drop (length l) l) ≡ after_list l
-unfolding after_list
-past_list l n e h = past_is l (1 + n) (over (length l) n h) ∙ ap (λ (k : ℕ). fields_from (1 + k) l) e
+pub after_is : (l : List ℕ) (n : ℕ) → take (length l - min n (length l)) (drop (min n (length l)) l) ≡ drop n l
+after_is l n = rest l (min n (length l)) ∙ drop_most n l (omega arith)
+
+pub from_is : (l : List ℕ) (k : ℕ) {m : ℕ} → length l ≤ 18446744073709551615 → m ≡ min (k * 17) 18446744073709551615 → drop m l ≡ fields_from k l
+unfolding fields_from
+from_is l k h e = ap (λ (m : ℕ). drop m l) e ∙ drop_most (k * 17) l h ∙ ap (λ (m : ℕ). drop m l) (omega arith)
+
+pub after_list_is : (l : List ℕ) {n m : ℕ} → length l ≤ 18446744073709551615 → n ≡ field_at l 0 → m ≡ min (n + 1) 18446744073709551615 → fields_from m l ≡ after_list l
+unfolding after_list fields_from
+after_list_is l {n} {m} h e f = all (ltb (n + 1) 18446744073709551615) refl
   where
-    over : (m n : ℕ) → m < n → m / 17 < 1 + n
-    over m n h = omega arith
+    all : (x : Bool) → ltb (n + 1) 18446744073709551615 ≡ x → drop (17 * m) l ≡ drop (17 * (1 + field_at l 0)) l
+    all true q = let k = ltb-true (n + 1) 18446744073709551615 q in ap (λ (j : ℕ). drop j l) (omega (arith, e, f, k))
+    all false q =
+        let k = ltb-false (n + 1) 18446744073709551615 q in
+        drop_of_length-le l (omega (arith, h, f, k)) ∙ sym (drop_of_length-le l (omega (arith, h, e, k)))
 
 -- ---- a list that is filled from its first place on: the first i places have what f says
 
@@ -176,20 +166,6 @@ module _ {A : Type 0} (f : ℕ → A) (none : A) where
 
   pub filling_all : {before l : List A} {i : ℕ} → Filling f none before l i → length before ≤ i → FilledBy f none l
   filling_all {before} {l} {i} r h = record { at = λ j g. r.at j (omega (arith, g, h, r.long)) }
-
--- ---- a number from its two's complement
-
-module _ (u : ℕ) (h : 9223372036854775808 ≤ u) (g : u < 18446744073709551616) where
-  pub negative_fits : SFits w64 (negsuc 0 -ℤ to_z w64 (18446744073709551615 - u))
-  negative_fits = difference_fits u h g
-
-  pub negative : of_z w64 (to_z w64 (of_z w64 (negsuc 0 -ℤ to_z w64 (18446744073709551615 - u)))) ≡ u
-  negative =
-      let e : 18446744073709551616 - suc (18446744073709551615 - u) ≡ u = omega arith in
-      ap (λ (z : ℤ). of_z w64 (to_z w64 (of_z w64 z))) (difference u h g) ∙ ap (of_z w64) (to_z-of_z w64 (negsuc (18446744073709551615 - u)) (small u h g)) ∙ e
-
-pub positive : (u : ℕ) → u < 18446744073709551616 → of_z w64 (to_z w64 u) ≡ u
-positive u h = of_z-to_z w64 u (record { fits = omega (arith, h) })
 
 -- ---- a pass set
 

@@ -4,6 +4,9 @@ ghost use Rattle.std.specs.Float.{binary64};
 ghost use Rattle.std.specs.Float.Ieee.{of_bits, to_bits};
 ghost use Rattle.answer_lines.specs.Word.{hex_digit, hex_word_at};
 
+use crate::{after, first};
+use std::num::{f64_from_bits_with_nan, f64_to_bits_with_nan};
+
 // The value of a hexadecimal digit.
 fn digit(c: u8) -> u64
     ensures { (result ≡ hex_digit c) × (result < 16) }
@@ -16,16 +19,10 @@ fn digit(c: u8) -> u64
 pub fn word(line: &[u8], at: usize) -> u64
     ensures { result ≡ hex_word_at line.now at }
 {
-    let mut value: u64 = 0;
-    let mut i = at;
-    let mut left: usize = 16;
-    while left > 0 {
-        if i >= line.len() {
-            return value;
-        }
-        value = value * 16 + digit(line[i]);
-        i += 1;
-        left -= 1;
+    let digits = first(after(line, at), 16);
+    let mut value = 0;
+    for c in digits {
+        value = value * 16 + digit(*c);
     }
     value
 }
@@ -34,20 +31,12 @@ pub fn word(line: &[u8], at: usize) -> u64
 pub fn float(bits: u64) -> f64
     ensures { result ≡ of_bits binary64 bits }
 {
-    if bits % 0x8000000000000000 > 0x7ff0000000000000 {
-        0.0 / 0.0
-    } else {
-        f64::from_bits(bits)
-    }
+    f64_from_bits_with_nan(bits)
 }
 
 // The bit pattern of an `f64`: 7ff8000000000000 for every NaN.
 pub fn bits(x: f64) -> u64
     ensures { result ≡ to_bits binary64 x }
 {
-    if x != x {
-        0x7ff8000000000000
-    } else {
-        f64::to_bits(x)
-    }
+    f64_to_bits_with_nan(x)
 }

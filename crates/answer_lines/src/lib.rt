@@ -4,12 +4,12 @@
 
 pub mod hex;
 
-ghost use Rattle.std.specs.Prelude.{◌≡◌, ◌+◌, ◌%◌, ◌≤◌, length, take, drop, eqb, pos};
+ghost use Rattle.std.specs.Prelude.{◌≡◌, ℕ, ◌+◌, ◌%◌, ◌≤◌, Bool, List, length, take, drop, eqb, pos};
 ghost use Rattle.std.specs.Float.{nan, binary64};
 ghost use Rattle.std.specs.Float.Ieee.{to_bits};
 ghost use Rattle.std.specs.Int.{w64};
 ghost use Rattle.std.proofs.Common.{of_z};
-ghost use Rattle.answer_lines.specs.Lines.{first_place, begins_with, line_word, occurs, asked_fields, answer_fields, fields_from, after_list, field_at, float_field, count_field, signed_field, packed_byte, byte_items, count_items, signed_items, float_items, same_bytes, same_counts, same_signed, same_floats, FilledBy, freq_list, ReadsSet};
+ghost use Rattle.answer_lines.specs.Lines.{first_place, begins_with, line_word, occurs, asked_fields, answer_fields, fields_from, after_list, field_at, float_field, count_field, signed_field, packed_byte, every, float_items, same_list, same_bytes, same_counts, same_signed, same_floats, FilledBy, freq_list, ReadsSet};
 
 use frame::Vec3;
 use moment::Moment;
@@ -18,14 +18,7 @@ use moment::Moment;
 pub fn find(text: &[u8], byte: u8) -> usize
     ensures { (result ≡ first_place byte text.now) × (result ≤ length text.now) }
 {
-    let mut i = 0;
-    while i < text.len() {
-        if text[i] == byte {
-            return i;
-        }
-        i += 1;
-    }
-    i
+    text.iter().position(|c| *c == byte).unwrap_or(text.len())
 }
 
 // Where the line that begins at a place ends: at its line feed, or the text's end. The loops over a text's lines meet the `requires`
@@ -34,23 +27,13 @@ pub fn line_end(text: &[u8], at: usize) -> usize
     requires { at ≤ length text.now }
     ensures { (result ≡ at + first_place 10 (drop at text.now)) × (result ≤ length text.now) }
 {
-    at + find(&text[at..], b'\n')
+    at + find(after(text, at), b'\n')
 }
 
 pub fn begins_with(line: &[u8], name: &[u8]) -> bool
     ensures { result ≡ begins_with name.now line.now }
 {
-    let mut i = 0;
-    while i < name.len() {
-        if line.len() <= i {
-            return false;
-        }
-        if line[i] != name[i] {
-            return false;
-        }
-        i += 1;
-    }
-    true
+    line.starts_with(name)
 }
 
 // The word that the line begins with.
@@ -65,14 +48,7 @@ pub fn word(line: &[u8]) -> &[u8]
 pub fn occurs_in(table: &[u8], name: &[u8]) -> bool
     ensures { result ≡ occurs name.now table.now }
 {
-    let mut i = 0;
-    while i < table.len() {
-        if begins_with(after(table, i), name) {
-            return true;
-        }
-        i += 1;
-    }
-    false
+    (0..table.len()).any(|i| begins_with(after(table, i), name))
 }
 
 // The fields that are asked.
@@ -89,33 +65,21 @@ pub fn asked(line: &[u8]) -> &[u8]
 pub fn answer(line: &[u8]) -> &[u8]
     ensures { result.now ≡ answer_fields line.now }
 {
-    let end = find(line, b'=');
-    if end == line.len() {
-        return &line[end..];
-    }
-    &line[end + 1..]
+    after(line, find(line, b'=') + 1)
 }
 
 // What stands after the first n bytes.
 pub fn after(line: &[u8], n: usize) -> &[u8]
     ensures { result.now ≡ drop n line.now }
 {
-    let all = line.len();
-    if all < n {
-        return &line[all..];
-    }
-    &line[n..]
+    &line[n.min(line.len())..]
 }
 
 // The fields from field k on.
 pub fn from(fields: &[u8], k: usize) -> &[u8]
     ensures { result.now ≡ fields_from k fields.now }
 {
-    let n = fields.len();
-    if n / 17 < k {
-        return &fields[n..];
-    }
-    &fields[17 * k..]
+    after(fields, k.saturating_mul(17))
 }
 
 // Field k, counted from 0.
@@ -129,12 +93,7 @@ pub fn field(fields: &[u8], k: usize) -> u64
 pub fn after_list(fields: &[u8]) -> &[u8]
     ensures { result.now ≡ after_list fields.now }
 {
-    let n = field(fields, 0);
-    let most = fields.len();
-    if (most as u64) < n {
-        return &fields[most..];
-    }
-    from(fields, 1 + n as usize)
+    from(fields, (field(fields, 0) as usize).saturating_add(1))
 }
 
 pub fn float(fields: &[u8], k: usize) -> f64
@@ -147,20 +106,17 @@ pub fn float(fields: &[u8], k: usize) -> f64
 pub fn signed(fields: &[u8], k: usize) -> i64
     ensures { of_z w64 result ≡ field_at fields.now k }
 {
-    let w = field(fields, k);
-    if w < 9223372036854775808 {
-        return w as i64;
-    }
-    -1 - (18446744073709551615 - w) as i64
+    field(fields, k).cast_signed()
 }
 
 // The moment of the first two fields, of the second its last 32 bits.
+#[tactic(auto, unfolding(crate::specs::Lines::count_field))]
 pub fn moment(fields: &[u8]) -> Moment
     ensures { (of_z w64 result.seconds ≡ field_at fields.now 0) × (result.nanos ≡ field_at fields.now 1 % 4294967296) }
 {
     Moment {
         seconds: signed(fields, 0),
-        nanos: (field(fields, 1) % 4294967296) as u32,
+        nanos: u32::read(fields, 1),
     }
 }
 
@@ -189,54 +145,128 @@ pub fn refused(answer: &[u8], refusal: u32) -> bool
     field(answer, 0) == refusal as u64
 }
 
-// The last 32 bits of field k.
-fn count(fields: &[u8], k: usize) -> u32
-    ensures { result ≡ count_field fields.now k }
-{
-    (field(fields, k) % 4294967296) as u32
+// What lists of stored answers are of: element i of the fields, and whether a value is that element.
+pub trait Element: Copy {
+    // What a list is said to have past its end.
+    ghost none: { Self };
+
+    // What the two functions answer, by the fields and the element's place.
+    ghost read: { List ℕ → ℕ → Self };
+
+    ghost is: { List ℕ → ℕ → Self → Bool };
+
+    fn read(fields: &[u8], i: usize) -> Self
+        ensures { result ≡ read fields.now i };
+
+    fn is(self, fields: &[u8], i: usize) -> bool
+        ensures { result ≡ is fields.now i self };
 }
 
-// Byte i of bytes that lie eight to a field.
-fn byte(fields: &[u8], i: usize) -> u8
-    ensures { result ≡ packed_byte fields.now i }
-{
-    ((field(fields, i / 8) >> (56 - 8 * (i % 8))) % 256) as u8
+// A byte, of bytes that lie eight to a field.
+impl Element for u8 {
+    ghost none = { 0 };
+
+    ghost read = { packed_byte };
+
+    ghost is = { λ fields i b. eqb b (packed_byte fields i) };
+
+    #[tactic(auto, unfolding(crate::specs::Lines::packed_byte))]
+    fn read(fields: &[u8], i: usize) -> u8
+        ensures { result ≡ packed_byte fields.now i }
+    {
+        ((field(fields, i / 8) >> (56 - 8 * (i % 8))) % 256) as u8
+    }
+
+    fn is(self, fields: &[u8], i: usize) -> bool
+        ensures { result ≡ eqb self (packed_byte fields.now i) }
+    {
+        self == u8::read(fields, i)
+    }
 }
 
-// As many bytes as out has places.
+// A count: the last 32 bits of a field are read, and all of it is compared.
+impl Element for u32 {
+    ghost none = { 0 };
+
+    ghost read = { count_field };
+
+    ghost is = { λ fields i n. eqb n (field_at fields i) };
+
+    #[tactic(auto, unfolding(crate::specs::Lines::count_field))]
+    fn read(fields: &[u8], i: usize) -> u32
+        ensures { result ≡ count_field fields.now i }
+    {
+        (field(fields, i) % 4294967296) as u32
+    }
+
+    fn is(self, fields: &[u8], i: usize) -> bool
+        ensures { result ≡ eqb self (field_at fields.now i) }
+    {
+        self as u64 == field(fields, i)
+    }
+}
+
+// A time.
+impl Element for i64 {
+    ghost none = { pos 0 };
+
+    ghost read = { signed_field };
+
+    ghost is = { λ fields i t. eqb (of_z w64 t) (field_at fields i) };
+
+    fn read(fields: &[u8], i: usize) -> i64
+        ensures { result ≡ signed_field fields.now i }
+    {
+        signed(fields, i)
+    }
+
+    fn is(self, fields: &[u8], i: usize) -> bool
+        ensures { result ≡ eqb (of_z w64 self) (field_at fields.now i) }
+    {
+        self == signed(fields, i)
+    }
+}
+
+// A float: any NaN is any other, zeros keep their sign.
+impl Element for f64 {
+    ghost none = { nan };
+
+    ghost read = { float_field };
+
+    ghost is = { λ fields i x. eqb (to_bits binary64 x) (field_at fields i) };
+
+    fn read(fields: &[u8], i: usize) -> f64
+        ensures { result ≡ float_field fields.now i }
+    {
+        float(fields, i)
+    }
+
+    fn is(self, fields: &[u8], i: usize) -> bool
+        ensures { result ≡ eqb (to_bits binary64 self) (field_at fields.now i) }
+    {
+        hex::bits(self) == field(fields, i)
+    }
+}
+
+// As many elements as out has places.
+pub fn fill<T: Element>(fields: &[u8], out: &mut [T])
+    ensures { FilledBy (T.read fields.now) T.none out.new }
+{
+    for (i, x) in out.iter_mut().enumerate() {
+        *x = T::read(fields, i);
+    }
+}
+
 pub fn bytes(fields: &[u8], out: &mut [u8])
     ensures { FilledBy (packed_byte fields.now) 0 out.new }
 {
-    for i in 0usize..out.len() {
-        out[i] = byte(fields, i);
-    }
+    fill(fields, out);
 }
 
-// As many floats as out has places.
 pub fn floats(fields: &[u8], out: &mut [f64])
     ensures { FilledBy (float_field fields.now) nan out.new }
 {
-    for i in 0usize..out.len() {
-        out[i] = float(fields, i);
-    }
-}
-
-// As many counts as out has places.
-pub fn counts(fields: &[u8], out: &mut [u32])
-    ensures { FilledBy (count_field fields.now) 0 out.new }
-{
-    for i in 0usize..out.len() {
-        out[i] = count(fields, i);
-    }
-}
-
-// As many times as out has places.
-pub fn times(fields: &[u8], out: &mut [i64])
-    ensures { FilledBy (signed_field fields.now) (pos 0) out.new }
-{
-    for i in 0usize..out.len() {
-        out[i] = signed(fields, i);
-    }
+    fill(fields, out);
 }
 
 // How long a pass set's lists are said to be.
@@ -261,10 +291,10 @@ pub fn set(
     let at_centers = after_list(fields);
     let at_times = after_list(at_centers);
     let at_freqs = after_list(at_times);
-    counts(from(fields, 1), counts_out);
-    floats(from(at_centers, 1), centers_out);
-    times(from(at_times, 1), times_out);
-    floats(from(at_freqs, 1), freqs_out);
+    fill(from(fields, 1), counts_out);
+    fill(from(at_centers, 1), centers_out);
+    fill(from(at_times, 1), times_out);
+    fill(from(at_freqs, 1), freqs_out);
     SetSizes {
         counts: field(fields, 0),
         centers: field(at_centers, 0),
@@ -281,133 +311,81 @@ pub fn after_set(fields: &[u8]) -> &[u8]
 }
 
 // The first n, or all where they are fewer.
+pub fn first<T>(x: &[T], n: u64) -> &[T]
+    ensures { result.now ≡ take n x.now }
+{
+    &x[..n.min(x.len() as u64) as usize]
+}
+
 pub fn first_bytes(x: &[u8], n: u64) -> &[u8]
     ensures { result.now ≡ take n x.now }
 {
-    if (x.len() as u64) < n {
-        return x;
-    }
-    &x[..n as usize]
+    first(x, n)
 }
 
 pub fn first_floats(x: &[f64], n: u64) -> &[f64]
     ensures { result.now ≡ take n x.now }
 {
-    if (x.len() as u64) < n {
-        return x;
-    }
-    &x[..n as usize]
+    first(x, n)
 }
 
 pub fn first_counts(x: &[u32], n: u64) -> &[u32]
     ensures { result.now ≡ take n x.now }
 {
-    if (x.len() as u64) < n {
-        return x;
-    }
-    &x[..n as usize]
+    first(x, n)
 }
 
 pub fn first_times(x: &[i64], n: u64) -> &[i64]
     ensures { result.now ≡ take n x.now }
 {
-    if (x.len() as u64) < n {
-        return x;
-    }
-    &x[..n as usize]
+    first(x, n)
 }
 
-// Whether these are the bytes.
-fn bytes_are(fields: &[u8], x: &[u8]) -> bool
-    ensures { result ≡ byte_items fields.now x.now }
+// Whether these are the elements of the fields.
+fn elements_are<T: Element>(fields: &[u8], x: &[T]) -> bool
+    ensures { result ≡ every (T.is fields.now) 0 x.now }
 {
-    for i in 0usize..x.len() {
-        if x[i] != byte(fields, i) {
-            return false;
-        }
-    }
-    true
+    x.iter().enumerate().all(|(i, x)| x.is(fields, i))
 }
 
-// Whether these are the floats: any NaN is any other, zeros keep their sign.
+#[tactic(auto, unfolding(crate::specs::Lines::float_items))]
 pub fn floats_are(fields: &[u8], x: &[f64]) -> bool
     ensures { result ≡ float_items fields.now x.now }
 {
-    for i in 0usize..x.len() {
-        if hex::bits(x[i]) != field(fields, i) {
-            return false;
-        }
-    }
-    true
-}
-
-fn counts_are(fields: &[u8], x: &[u32]) -> bool
-    ensures { result ≡ count_items fields.now x.now }
-{
-    for i in 0usize..x.len() {
-        if x[i] as u64 != field(fields, i) {
-            return false;
-        }
-    }
-    true
-}
-
-fn signed_are(fields: &[u8], x: &[i64]) -> bool
-    ensures { result ≡ signed_items fields.now x.now }
-{
-    for i in 0usize..x.len() {
-        if x[i] != signed(fields, i) {
-            return false;
-        }
-    }
-    true
+    elements_are(fields, x)
 }
 
 // Whether the list that begins at the first field has n elements, the first n of these.
+pub fn same<T: Element>(fields: &[u8], n: usize, x: &[T]) -> bool
+    ensures { result ≡ same_list (λ f. every (T.is f) 0) fields.now n x.now }
+{
+    field(fields, 0) == n as u64 && n <= x.len() && elements_are(from(fields, 1), &x[..n])
+}
+
+#[tactic(auto, unfolding(crate::specs::Lines::byte_items))]
 pub fn same_bytes(fields: &[u8], n: usize, x: &[u8]) -> bool
     ensures { result ≡ same_bytes fields.now n x.now }
 {
-    if field(fields, 0) != n as u64 {
-        return false;
-    }
-    if x.len() < n {
-        return false;
-    }
-    bytes_are(from(fields, 1), &x[..n])
+    same(fields, n, x)
 }
 
+#[tactic(auto, unfolding(crate::specs::Lines::count_items))]
 pub fn same_counts(fields: &[u8], n: usize, x: &[u32]) -> bool
     ensures { result ≡ same_counts fields.now n x.now }
 {
-    if field(fields, 0) != n as u64 {
-        return false;
-    }
-    if x.len() < n {
-        return false;
-    }
-    counts_are(from(fields, 1), &x[..n])
+    same(fields, n, x)
 }
 
+#[tactic(auto, unfolding(crate::specs::Lines::signed_items))]
 pub fn same_signed(fields: &[u8], n: usize, x: &[i64]) -> bool
     ensures { result ≡ same_signed fields.now n x.now }
 {
-    if field(fields, 0) != n as u64 {
-        return false;
-    }
-    if x.len() < n {
-        return false;
-    }
-    signed_are(from(fields, 1), &x[..n])
+    same(fields, n, x)
 }
 
+#[tactic(auto, unfolding(crate::specs::Lines::float_items))]
 pub fn same_floats(fields: &[u8], n: usize, x: &[f64]) -> bool
     ensures { result ≡ same_floats fields.now n x.now }
 {
-    if field(fields, 0) != n as u64 {
-        return false;
-    }
-    if x.len() < n {
-        return false;
-    }
-    floats_are(from(fields, 1), &x[..n])
+    same(fields, n, x)
 }

@@ -1,9 +1,8 @@
 -- `answer_lines::answer` meets its contract. Assumes nothing.
-use Rattle.answer_lines.proofs.Laws.{answer_is, no_answer}
+use Rattle.std.proofs.Common.{ℕ, ◌+◌, drop, ap, ◌∙◌}
+use Rattle.answer_lines.specs.Lines.{answer_fields}
 use Rattle.answer_lines.proofs.answer.Goals as goal
 
-pub returns-then-end-line : goal.returns-then-end-line
-returns-then-end-line c = no_answer c.args.line.now c.find-end.result c.find-end.ensures.0 c.if-end-line.true
-
 pub returns : goal.returns
-returns c = answer_is c.args.line.now c.find-end.result c.find-end.ensures.0
+unfolding answer_fields
+returns c = c.after.ensures ∙ ap (λ (k : ℕ). drop (k + 1) c.args.line.now) c.find.ensures.0

@@ -2,8 +2,5 @@
 use Rattle.answer_lines.proofs.Digits.{Read}
 use Rattle.answer_lines.proofs.hex.word.Given as goal
 
-abbrev pub invariant-loop-left : goal.invariant-loop-left
-invariant-loop-left l = Read l.line l.at l.value l.i l.left
-
-abbrev pub decreases-loop-left : goal.decreases-loop-left
-decreases-loop-left l = l.left
+abbrev pub invariant-loop-c : goal.invariant-loop-c
+invariant-loop-c l = Read l.digits l.value l.c-index
