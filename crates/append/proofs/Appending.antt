@@ -1,13 +1,14 @@
 -- The laws of what is put into a buffer piece after piece. Assumes nothing.
 use mathlib.Core.Path.{◌≡◌, refl, sym, ap, ◌∙◌, subst}
 use mathlib.Core.Bool.{Bool, true, false, not, cond}
-use mathlib.Core.List.{List, [], ◌∷◌, ◌++◌}
-use Prim.Native.Nat.{ℕ, zero, suc, ◌+◌, ◌^◌, ◌≤◌, ◌<◌, min}
+use mathlib.Core.List.{List, [], ◌∷◌, ◌++◌, append_assoc}
+use Prim.Native.Nat.{ℕ, zero, suc, ◌+◌, ◌-◌, ◌^◌, ◌≤◌, ◌<◌, min}
 use native.Mathlib.Nat.{min-eq_left, min-eq_right, le_of_lt}
 use native.Mathlib.Omega.{arith}
 use lib.Dec.{T, leb, ltb, ltb→lt, nltb→le}
-use lib.ListN.{length, set, length-append}
-use lib.Seq.{sets, set_out, length-sets}
+use lib.ListN.{length, take, drop, take-append-drop, length-append}
+use lib.Seq.{sets, set_out, sets-eq, length-sets, drop-drop, take_all, length-take-le}
+use borrow.Rule.Slice.PartMut.{put_mid}
 use borrow.Author.Tests.{le-leb, lt-leb}
 use Rattle.laws.proofs.Lists.{sets_append}
 use Rattle.decimal.specs.Fixed.{digit_at}
@@ -67,17 +68,44 @@ begins = record { gives = λ f. f }
 pub goes_on : {a b whole : List ℕ} {i n i₀ : ℕ} {o p o₀ : List ℕ} → Rest (a ++ b) i o whole i₀ o₀ → Appends a i o p n → Rest b n p whole i₀ o₀
 goes_on r f = record { gives = λ g. r.gives (both f g) }
 
--- ---- single stores
+-- ---- one piece, as far as there is room
 
--- past the end there is no room
-pub no_room : (t o : List ℕ) (i : ℕ) → length o ≤ i → Appends t i o o (length o)
-no_room t o i h = let p : length o ≤ i + length t = omega arith in record { is = sym (sets_out t o i h); behind = sym (min-eq_right p) }
+-- nothing is stored, and the place is in the buffer or at its end
+pub none : (o : List ℕ) (i : ℕ) {n : ℕ} → n ≡ min i (length o) → Appends [] i o o n
+none o i e = record { is = refl; behind = e ∙ ap (λ (k : ℕ). min k (length o)) (let z : i ≡ i + 0 = omega arith in z) }
 
-pub none : (o : List ℕ) (i : ℕ) → i < length o → Appends [] i o o i
-none o i h = let p : i + 0 ≤ length o = omega arith in record { is = refl; behind = sym (min-eq_left p ∙ (let e : i + 0 ≡ i = omega arith in e)) }
+-- a part of the buffer, given back with its values
+put_back : (o v : List ℕ) (s n : ℕ) → length v ≡ n → s + n ≤ length o → put_mid s (s + n - s) o v ≡ sets o s v
+put_back o v s n e h =
+    let k : s + (s + n - s) ≡ s + length v = omega (arith, e) in
+    ap (λ (r : List ℕ). take s o ++ (v ++ r)) (drop-drop (s + n - s) s o ∙ ap (λ (j : ℕ). drop j o) k)
+    ∙ sym (append_assoc (take s o) v (drop (s + length v) o))
+    ∙ sym (sets-eq v o s (omega (arith, e, h)))
 
-pub one : (v : ℕ) (o : List ℕ) (i : ℕ) → i < length o → Appends (v ∷ []) i o (set o i v) (i + 1)
-one v o i h = let p : i + 1 ≤ length o = omega arith in record { is = refl; behind = sym (min-eq_left p) }
+-- what finds room, from the place or from the end on, is all that is stored
+fits_in : (t o : List ℕ) (i : ℕ) → Least i (length o) → {s n : ℕ} → s ≡ min i (length o) → n ≡ min (length t) (length o - s) → sets o s (take n t) ≡ sets o i t
+fits_in t o i (second e h) {s} {n} p q =
+    let z : n ≡ 0 = omega (arith, p, q, e) in
+    ap (λ (k : ℕ). sets o s (take k t)) z ∙ sym (sets_out t o i h)
+fits_in t o i (first e h) {s} {n} p q = rw (p ∙ e) (go (least (length t) (length o - i)))
+  where
+    go : Least (length t) (length o - i) → sets o i (take n t) ≡ sets o i t
+    go (first f g) = ap (sets o i) (take_all n t (omega (arith, p, q, e, g)))
+    go (second f g) =
+        let m : n ≡ length o - i = omega (arith, p, q, e, f) in
+        let l : length (take n t) ≡ n = length-take-le n t (omega (arith, m, g)) in
+        sym
+        (ap (sets o i) (sym (take-append-drop n t))
+        ∙ sets_append (take n t) (drop n t) o i
+        ∙ sets_out (drop n t) (sets o i (take n t)) (i + length (take n t)) (omega (arith, l, m, h, length-sets o i (take n t))))
+
+pub placed : (t o : List ℕ) (i : ℕ) {s n : ℕ} {v : List ℕ} → s ≡ min i (length o) → n ≡ min (length t) (length o - s) → v ≡ take n t → Appends t i o (put_mid s (s + n - s) o v) (s + n)
+placed t o i {s} {n} {v} p q e =
+    let l : length v ≡ n = ap length e ∙ length-take-le n t (omega (arith, q)) in
+    record {
+      is = put_back o v s n l (omega (arith, p, q)) ∙ ap (sets o s) e ∙ fits_in t o i (least i (length o)) p q;
+      behind = omega (arith, p, q);
+    }
 
 -- ---- a digit
 

@@ -9,30 +9,22 @@ ghost use Rattle.append.specs.Append.{Appends, leading_of, numeral};
 pub fn nothing(out: &mut [u8], at: usize) -> usize
     ensures { Appends [] at out.old out.new result }
 {
-    if out.len() <= at {
-        return out.len();
-    }
-    at
+    at.min(out.len())
 }
 
 pub fn byte(b: u8, out: &mut [u8], at: usize) -> usize
     ensures { Appends (b ∷ []) at out.old out.new result }
 {
-    if out.len() <= at {
-        return out.len();
-    }
-    out[at] = b;
-    at + 1
+    text(&[b], out, at)
 }
 
 pub fn text(text: &[u8], out: &mut [u8], at: usize) -> usize
     ensures { Appends text.now at out.old out.new result }
 {
-    let mut next = at;
-    for k in 0usize..text.len() {
-        next = byte(text[k], out, next);
-    }
-    nothing(out, next)
+    let start = at.min(out.len());
+    let n = text.len().min(out.len() - start);
+    out[start..start + n].copy_from_slice(&text[..n]);
+    start + n
 }
 
 // The digit at 10^i, where n has one.
@@ -41,9 +33,10 @@ fn leading(n: u64, i: usize, out: &mut [u8], at: usize) -> usize
     ensures { Appends (leading_of n i) at out.old out.new result }
 {
     if decimal::fixed::power(i) <= n {
-        return byte(decimal::fixed::digit(n, i), out, at);
+        byte(decimal::fixed::digit(n, i), out, at)
+    } else {
+        nothing(out, at)
     }
-    nothing(out, at)
 }
 
 // n in decimal digits.
@@ -51,10 +44,8 @@ pub fn number(n: u64, out: &mut [u8], at: usize) -> usize
     ensures { Appends (numeral n) at out.old out.new result }
 {
     let mut next = at;
-    let mut i = 19;
-    while 0 < i {
+    for i in (1..20).rev() {
         next = leading(n, i, out, next);
-        i -= 1;
     }
     byte(decimal::fixed::digit(n, 0), out, next)
 }
