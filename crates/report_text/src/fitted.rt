@@ -50,9 +50,10 @@ fn clock(dt: f64, out: &mut [u8], at: usize) -> usize
     let a = append::text(b"its clock is ", out, at);
     let b = number::real(float::abs(dt), out, a);
     if dt < 0.0 {
-        return append::text(b" s fast (take it from the times)", out, b);
+        append::text(b" s fast (take it from the times)", out, b)
+    } else {
+        append::text(b" s slow (add it to the times)", out, b)
     }
-    append::text(b" s slow (add it to the times)", out, b)
 }
 
 // A positive df is what the recorded frequencies have too much.
@@ -62,9 +63,10 @@ fn offset(df: f64, out: &mut [u8], at: usize) -> usize
     let a = append::text(b", its frequencies are ", out, at);
     let b = number::real(float::abs(df), out, a);
     if df < 0.0 {
-        return append::text(b" Hz low (add it to them)", out, b);
+        append::text(b" Hz low (add it to them)", out, b)
+    } else {
+        append::text(b" Hz high (take it from them)", out, b)
     }
-    append::text(b" Hz high (take it from them)", out, b)
 }
 
 fn drift(df1: f64, df2: f64, out: &mut [u8], at: usize) -> usize

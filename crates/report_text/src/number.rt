@@ -3,6 +3,8 @@ ghost use Rattle.std.specs.Prelude.{◌≡◌, ◌≤◌};
 ghost use Rattle.append.specs.Append.{Appends};
 ghost use Rattle.report_text.specs.Number.{millionths_of, three_of, six_of, minus_text, size_text, rounded_of, real_of};
 
+use decimal::fixed::digit;
+
 // |v| in millionths, to the nearest.
 fn millionths(v: f64) -> u64
     ensures { result ≡ millionths_of v }
@@ -15,9 +17,7 @@ fn three(n: u64, i: usize, out: &mut [u8], at: usize) -> usize
     requires { i ≤ 3 }
     ensures { Appends (three_of n i) at out.old out.new result }
 {
-    let a = append::byte(decimal::fixed::digit(n, i + 2), out, at);
-    let b = append::byte(decimal::fixed::digit(n, i + 1), out, a);
-    append::byte(decimal::fixed::digit(n, i), out, b)
+    append::text(&[digit(n, i + 2), digit(n, i + 1), digit(n, i)], out, at)
 }
 
 fn six(n: u64, out: &mut [u8], at: usize) -> usize
@@ -31,13 +31,11 @@ fn six(n: u64, out: &mut [u8], at: usize) -> usize
 fn sign(v: f64, n: u64, out: &mut [u8], at: usize) -> usize
     ensures { Appends (minus_text v n) at out.old out.new result }
 {
-    if n == 0 {
-        return append::nothing(out, at);
+    if n != 0 && v < 0.0 {
+        append::text(b"-", out, at)
+    } else {
+        append::nothing(out, at)
     }
-    if v < 0.0 {
-        return append::text(b"-", out, at);
-    }
-    append::nothing(out, at)
 }
 
 // n millionths.
@@ -61,11 +59,11 @@ fn rounded(v: f64, out: &mut [u8], at: usize) -> usize
 pub fn real(v: f64, out: &mut [u8], at: usize) -> usize
     ensures { Appends (real_of v) at out.old out.new result }
 {
-    if v != v {
-        return append::text(b"not a number", out, at);
+    if v.is_nan() {
+        append::text(b"not a number", out, at)
+    } else if 1e12 < float::abs(v) {
+        append::text(b"over 1e12 in size", out, at)
+    } else {
+        rounded(v, out, at)
     }
-    if 1e12 < float::abs(v) {
-        return append::text(b"over 1e12 in size", out, at);
-    }
-    rounded(v, out, at)
 }

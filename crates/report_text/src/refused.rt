@@ -1,112 +1,39 @@
 // Why something was refused.
+ghost use Rattle.std.specs.Prelude.{◌≡◌};
 ghost use Rattle.append.specs.Append.{Appends};
-ghost use Rattle.report_text.specs.Sentences.{file_sentence, input_sentence, work_sentence, sentence_of, numbered_of, refusal_line, file_refusal_of, line_text};
-
-fn file_sentence(k: u32, out: &mut [u8], at: usize) -> usize
-    ensures { Appends (file_sentence k) at out.old out.new result }
-{
-    if k == 1 {
-        return append::text(b"a byte above 127", out, at);
-    }
-    if k == 2 {
-        return append::text(b"a line of more than 256 bytes", out, at);
-    }
-    if k == 3 {
-        return append::text(
-            b"a number of more than 19 digits, or with an exponent outside -30 to 30",
-            out,
-            at,
-        );
-    }
-    if k == 4 {
-        return append::text(b"a moment outside 1957 to 2056", out, at);
-    }
-    if k == 5 {
-        return append::text(b"more than 16 passes or 4096 samples", out, at);
-    }
-    append::text(b"refused", out, at)
-}
-
-fn input_sentence(k: u32, out: &mut [u8], at: usize) -> usize
-    ensures { Appends (input_sentence k) at out.old out.new result }
-{
-    if k == 6 {
-        return append::text(
-            b"the mast's position or the inclination is not a number",
-            out,
-            at,
-        );
-    }
-    if k == 7 {
-        return append::text(b"the inclination is outside 0 to 180 degrees", out, at);
-    }
-    if k == 8 {
-        return append::text(b"a sample's frequency is not a number", out, at);
-    }
-    if k == 9 {
-        return append::text(b"fewer than two passes have samples", out, at);
-    }
-    if k == 10 {
-        return append::text(
-            b"fewer samples than four and one for each pass that has any",
-            out,
-            at,
-        );
-    }
-    append::text(b"refused", out, at)
-}
-
-fn work_sentence(k: u32, out: &mut [u8], at: usize) -> usize
-    ensures { Appends (work_sentence k) at out.old out.new result }
-{
-    if k == 11 {
-        return append::text(
-            b"the orbit cannot be printed, or the name is over 24 bytes or has a byte outside 32 to 126",
-            out,
-            at,
-        );
-    }
-    if k == 13 {
-        return append::text(
-            b"latitude, longitude and height are not three numbers with commas and no blanks between them, within 90 and 360 degrees and -500 to 10000 m",
-            out,
-            at,
-        );
-    }
-    if k == 21 {
-        return append::text(b"too little memory was lent", out, at);
-    }
-    if k == 23 {
-        return append::text(
-            b"a moment of a prediction lies over 8000000000000 s from 1970",
-            out,
-            at,
-        );
-    }
-    if k == 24 {
-        return append::text(
-            b"no orbit fits: the best sum is above 1e11, or no trial gave one",
-            out,
-            at,
-        );
-    }
-    if k == 25 {
-        return append::text(b"a pass's frequency offset exceeds 500 kHz", out, at);
-    }
-    append::text(b"refused", out, at)
-}
+ghost use Rattle.report_text.specs.Sentences.{sentence_of, numbered_of, refusal_line, file_refusal_of, line_text};
 
 // The sentence of a refusal's number.
+fn words(k: u32) -> &'static [u8]
+    ensures { result.now ≡ sentence_of k }
+{
+    match k {
+        1 => b"a byte above 127",
+        2 => b"a line of more than 256 bytes",
+        3 => b"a number of more than 19 digits, or with an exponent outside -30 to 30",
+        4 => b"a moment outside 1957 to 2056",
+        5 => b"more than 16 passes or 4096 samples",
+        6 => b"the mast's position or the inclination is not a number",
+        7 => b"the inclination is outside 0 to 180 degrees",
+        8 => b"a sample's frequency is not a number",
+        9 => b"fewer than two passes have samples",
+        10 => b"fewer samples than four and one for each pass that has any",
+        11 =>
+            b"the orbit cannot be printed, or the name is over 24 bytes or has a byte outside 32 to 126",
+        13 =>
+            b"latitude, longitude and height are not three numbers with commas and no blanks between them, within 90 and 360 degrees and -500 to 10000 m",
+        21 => b"too little memory was lent",
+        23 => b"a moment of a prediction lies over 8000000000000 s from 1970",
+        24 => b"no orbit fits: the best sum is above 1e11, or no trial gave one",
+        25 => b"a pass's frequency offset exceeds 500 kHz",
+        _ => b"refused",
+    }
+}
+
 pub fn sentence(k: u32, out: &mut [u8], at: usize) -> usize
     ensures { Appends (sentence_of k) at out.old out.new result }
 {
-    if k < 6 {
-        return file_sentence(k, out, at);
-    }
-    if k < 11 {
-        return input_sentence(k, out, at);
-    }
-    work_sentence(k, out, at)
+    append::text(words(k), out, at)
 }
 
 // "refusal 4: a moment outside 1957 to 2056" and a line end.

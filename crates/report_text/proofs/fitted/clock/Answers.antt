@@ -8,7 +8,7 @@ unfolding clock_of
 returns-then-dt c =
     rw c.if-dt.true (both c.text-a.ensures (both (real_put c.abs.ensures c.real-b.ensures) c.text.ensures))
 
-pub returns : goal.returns
+pub returns-else-dt : goal.returns-else-dt
 unfolding clock_of
-returns c =
-    rw c.if-dt.false (both c.text-a.ensures (both (real_put c.abs.ensures c.real-b.ensures) c.text-2.ensures))
+returns-else-dt c =
+    rw c.if-dt.false (both c.text-a.ensures (both (real_put c.abs.ensures c.real-b.ensures) c.text-else-dt.ensures))

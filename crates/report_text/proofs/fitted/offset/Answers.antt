@@ -8,7 +8,7 @@ unfolding offset_of
 returns-then-df c =
     rw c.if-df.true (both c.text-a.ensures (both (real_put c.abs.ensures c.real-b.ensures) c.text.ensures))
 
-pub returns : goal.returns
+pub returns-else-df : goal.returns-else-df
 unfolding offset_of
-returns c =
-    rw c.if-df.false (both c.text-a.ensures (both (real_put c.abs.ensures c.real-b.ensures) c.text-2.ensures))
+returns-else-df c =
+    rw c.if-df.false (both c.text-a.ensures (both (real_put c.abs.ensures c.real-b.ensures) c.text-else-df.ensures))
