@@ -272,8 +272,7 @@ fn tell_twins(
     requires { Whole counts.now (length times.now) × Whole counts.now (length freqs.now) }
 {
     for q in 0..counts.len() {
-        let p = pass_checks::twin(counts, times, freqs, q);
-        if p < q {
+        if let Some(p) = pass_checks::twin(counts, times, freqs, q) {
             messages::twice(rt, stderr, word_of(q, first), word_of(p, first));
         }
     }
@@ -296,7 +295,7 @@ pub fn check_and_fit(
     requires { Sizes counts.now (length times.now) (length freqs.old) (length centers.now) }
 {
     tell_twins(rt, stderr, layout.first, counts, times, freqs);
-    let nan = pass_checks::nan_pass(counts, freqs);
+    let nan = pass_checks::nan_pass(counts, freqs).unwrap_or(counts.len());
     fit(
         rt, stdout, stderr, layout, nan, counts, times, freqs, centers, rec_ecef, initial_i, name,
     )

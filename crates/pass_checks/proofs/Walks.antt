@@ -1,109 +1,63 @@
 -- What the loops over passes and samples ask. Assumes nothing.
-use mathlib.Core.Path.{◌≡◌, refl, sym, ap, ◌∙◌}
+use mathlib.Core.Path.{◌≡◌, refl, sym, ap, ap₂, subst, ◌∙◌}
 use mathlib.Core.Bool.{Bool, true, false, not, cond, ◌&&◌}
 use mathlib.Core.List.{List, [], ◌∷◌}
-use Prim.Native.Nat.{ℕ, suc, ◌+◌, ◌-◌, ◌≤◌, ◌<◌}
+use Prim.Native.Nat.{ℕ, zero, suc}
 use native.Mathlib.Numerals.{add-one}
-use native.Mathlib.Omega.{arith}
-use borrow.Author.Tests.{eq-eqb, ne_eqb}
-use lib.Dec.{eqb}
-use lib.IntN.{ℤ}
+use borrow.Author.Tests.{eq-eqb, ne_eqb, eqb-true}
+use lib.Dec.{eqb, ltb}
+use lib.IntN.{ℤ, pos, negsuc}
+use Rattle.std.proofs.Common.{arith, int_eq}
+use Rattle.std.proofs.lemmas.Bool.Decides.{nat_tests, Decides-int_eq}
 use lib.Ieee.{Float, eq}
-use lib.ListN.{length, get_or, take, drop, drop_of_length-le}
-use lib.Seq.{drop-cons}
+use Rattle.std.specs.Prelude.{Some}
+use Rattle.std.specs.List.{find, range_with_len}
+use Rattle.std.specs.Cmp.Lexicographic.{pointwise}
 use Rattle.laws.proofs.Tests.{and_then}
-use Rattle.pass_set.specs.PassSet.{start_of, count_of, pass_of}
-use Rattle.pass_set.proofs.Laws.{start_fits}
+use Rattle.pass_set.specs.PassSet.{count_of, pass_of}
 use Rattle.passes.specs.File.{answer, name_of}
 use Rattle.passes.specs.declared.file.PassFile.{PassFile}
-use Rattle.pass_checks.specs.Checks.{first_of, same, level, alike, named_other, other_name, Whole}
+use Rattle.pass_checks.specs.Checks.{first_of, same, level, alike, named_other, other_name}
 
--- ---- the numbers from p on decide which is the first
+-- ---- the first number that passes a test, and lists alike, in the library's words
 
-pub record FirstFrom (test : ℕ → Bool) (n p : ℕ) : Type 0 where
-  pub within : p ≤ n
-  pub rest : first_of test p (n - p) ≡ first_of test 0 n
-
-pub begin : (test : ℕ → Bool) (n : ℕ) → FirstFrom test n 0
-begin test n = let e : n - 0 ≡ n = omega arith in record { within = omega arith; rest = ap (first_of test 0) e }
-
-first_step : (test : ℕ → Bool) (p m : ℕ) → first_of test p (suc m) ≡ cond (test p) p (first_of test (suc p) m)
+pub first_is : (test : ℕ → Bool) (p n : ℕ) → find test (range_with_len p n) ≡ first_of test p n
 unfolding first_of
-first_step test p m = refl
+first_is test p zero = refl
+first_is test p (suc n) = ap (cond (test p) (Some p)) (rw add-one (first_is test (suc p) n))
 
-module _ {test : ℕ → Bool} {n p : ℕ} {b : Bool} (h : p < n) (f : FirstFrom test n p) (e : b ≡ test p) where
-  step : cond (test p) p (first_of test (suc p) (n - suc p)) ≡ first_of test 0 n
-  step =
-      let m : suc (n - suc p) ≡ n - p = omega arith in
-      sym (first_step test p (n - suc p)) ∙ ap (first_of test p) m ∙ f.rest
-
-  pub goes_on : b ≡ false → FirstFrom test n (p + 1)
-  goes_on d = record { within = omega arith; rest = rw add-one (rw (sym e ∙ d) at step) }
-
-  pub found : b ≡ true → p ≡ first_of test 0 n
-  found d = rw (sym e ∙ d) at step
-
-first_none : (test : ℕ → Bool) (p : ℕ) → first_of test p 0 ≡ p
-unfolding first_of
-first_none test p = refl
-
-pub not_found : {test : ℕ → Bool} {n p : ℕ} → n ≤ p → FirstFrom test n p → n ≡ first_of test 0 n
-not_found {test} {n} {p} h f =
-    let m : 0 ≡ n - p = omega arith in
-    let s : n ≡ p = omega (arith, f.within) in
-    s ∙ sym (first_none test p) ∙ ap (first_of test p) m ∙ f.rest
-
--- ---- the elements from k on decide whether two lists are the same
-
-pub of_unlike_lengths : {A : Type 0} (like : A → A → Bool) (a b : List A) → (length a ≡ length b → ⊥) → false ≡ same like a b
+pub same_is : {A : Type 0} {like : A → A → Bool} (E : A → A → Bool) → ((x y : A) → E x y ≡ like x y) → (a b : List A) → pointwise E a b ≡ same like a b
 unfolding same
-of_unlike_lengths like [] [] h = absurd (h refl)
-of_unlike_lengths like [] (y ∷ b) h = refl
-of_unlike_lengths like (x ∷ a) [] h = refl
-of_unlike_lengths like (x ∷ a) (y ∷ b) h = both (like x y) (of_unlike_lengths like a b (λ e. h (ap suc e)))
-  where
-    both : (t : Bool) {s : Bool} → false ≡ s → false ≡ (t && s)
-    both true e = e
-    both false e = refl
+same_is E e [] [] = refl
+same_is E e [] (y ∷ b) = refl
+same_is E e (x ∷ a) [] = refl
+same_is E e (x ∷ a) (y ∷ b) = ap₂ ◌&&◌ (e x y) (same_is E e a b)
 
-pub record SameFrom {A : Type 0} (like : A → A → Bool) (a b : List A) (k : ℕ) : Type 0 where
-  pub long : length a ≡ length b
-  pub rest : same like (drop k a) (drop k b) ≡ same like a b
+-- neither number is less where both are one
+nat_level : (a b : ℕ) → eqb a b ≡ (not (ltb a b) && not (ltb b a))
+nat_level a b = grind (arith, nat_tests)
 
-pub same_begins : {A : Type 0} (like : A → A → Bool) (a b : List A) → length a ≡ length b → SameFrom like a b 0
-same_begins like a b e = record { long = e; rest = refl }
+level_self : (t : ℤ) → level t t ≡ true
+unfolding level
+level_self (pos a) = sym (nat_level a a) ∙ eq-eqb a a refl
+level_self (negsuc a) = sym (nat_level a a) ∙ eq-eqb a a refl
 
-same_step : {A : Type 0} (like : A → A → Bool) (a b : List A) (k : ℕ) (d : A) → k < length a → length a ≡ length b
-    → same like (drop k a) (drop k b) ≡ (like (get_or a k d) (get_or b k d) && same like (drop (k + 1) a) (drop (k + 1) b))
-unfolding same
-same_step like a b k d h e =
-    let g : k < length b = omega arith in
-    let next : k + 1 ≡ suc k = add-one k in
-    rw (next, drop-cons a k d h, drop-cons b k d g)
+level_same : (t u : ℤ) → level t u ≡ true → t ≡ u
+unfolding level
+level_same (pos a) (pos b) e = ap pos (eqb-true a b (nat_level a b ∙ e))
+level_same (pos a) (negsuc b) e = let f : false ≡ true = e in cc
+level_same (negsuc a) (pos b) e = let f : false ≡ true = e in cc
+level_same (negsuc a) (negsuc b) e = ap negsuc (sym (eqb-true b a (nat_level b a ∙ e)))
 
-module _ {A : Type 0} {like : A → A → Bool} {a b : List A} {k : ℕ} (d : A) (h : k < length a) (f : SameFrom like a b k) where
-  pub same_goes : like (get_or a k d) (get_or b k d) ≡ true → SameFrom like a b (k + 1)
-  same_goes e = record { long = f.long; rest = rw e at (sym (same_step like a b k d h f.long) ∙ f.rest) }
+same_bools : (b c : Bool) → (b ≡ true → c ≡ true) → (c ≡ true → b ≡ true) → b ≡ c
+same_bools true c f g = sym (f refl)
+same_bools false true f g = g refl
+same_bools false false f g = refl
 
-  pub same_fails : like (get_or a k d) (get_or b k d) ≡ false → false ≡ same like a b
-  same_fails e = rw e at (sym (same_step like a b k d h f.long) ∙ f.rest)
-
-pub same_ends : {A : Type 0} {like : A → A → Bool} {a b : List A} {k : ℕ} → length a ≤ k → SameFrom like a b k → true ≡ same like a b
-unfolding same
-same_ends {a = a} {b = b} {k = k} h f =
-    let g : length b ≤ k = omega (arith, f.long) in
-    rw (drop_of_length-le a {i = k} h, drop_of_length-le b {i = k} g) at f.rest
-
--- ---- a pass's part of an array, as the code lends it
-
-module _ {counts : List ℕ} {n p : ℕ} (w : Whole counts n) (h : p < length counts) where
-  pub pass_end : start_of counts p + count_of counts p ≤ n
-  pass_end = omega (arith, start_fits counts p h, w.whole)
-
-pub part_is : {A : Type 0} (counts : List ℕ) (p : ℕ) (xs : List A) {start : ℕ} → start ≡ start_of counts p
-    → take (start + count_of counts p - start) (drop start xs) ≡ pass_of counts p xs
-unfolding pass_of
-part_is counts p xs {start} e = let m : start + count_of counts p - start ≡ count_of counts p = omega arith in rw (m, e)
+pub level_is : (t u : ℤ) → int_eq t u ≡ level t u
+level_is t u =
+    let d = Decides-int_eq t u in
+    same_bools (int_eq t u) (level t u) (λ e. subst (λ (z : ℤ). level t z ≡ true) (d.0 e) (level_self t)) (λ e. d.1 (level_same t u e))
 
 -- ---- whether a file has another name
 
@@ -117,6 +71,9 @@ module _ (name file : List ℕ) {r : PassFile} (e : r ≡ answer file 4096 4096)
   another h k g = ap not (g ∙ ap (same eqb name) k) ∙ and_then r.name_seen (not (same eqb name (name_of file r))) h ∙ ap (named_other name file) e
 
 -- ---- whether two passes are alike
+
+pub no_count : {n : ℕ} {v : Bool} → n ≡ 0 → v ≡ not (eqb n 0) → v ≡ false
+no_count {n} e d = d ∙ ap not (eq-eqb n 0 e)
 
 module _ (counts : List ℕ) (times : List ℤ) (freqs : List Float) (p q : ℕ) where
   pub none_counted : count_of counts p ≡ 0 → false ≡ alike counts times freqs p q

@@ -1,5 +1,5 @@
 -- What is told of a pass set that is no refusal of it, and which pass a refusal is of.
-use Rattle.std.specs.Prelude.{◌≡◌, Bool, true, false, not, cond, ◌&&◌, List, [], ◌∷◌, ℕ, zero, suc, ◌≤◌, eqb, ℤ, Float, length}
+use Rattle.std.specs.Prelude.{◌≡◌, Bool, true, false, not, cond, ◌&&◌, List, [], ◌∷◌, ℕ, zero, suc, ◌≤◌, eqb, ℤ, Float, length, Option, Some, None}
 use Rattle.std.specs.Int.Signed.{lt_z}
 use Rattle.std.specs.Float.Ieee.{eq}
 use Rattle.pass_set.specs.PassSet.{total, count_of, pass_of}
@@ -7,13 +7,13 @@ use Rattle.arguments.specs.Refusals.{any_nan}
 use Rattle.passes.specs.File.{answer, name_of}
 use Rattle.passes.specs.declared.file.PassFile.{PassFile}
 
--- the first of n numbers from p on that passes the test; the number behind them if none does
-unfoldable pub first_of : (ℕ → Bool) → ℕ → ℕ → ℕ
-first_of test p zero = p
-first_of test p (suc n) = cond (test p) p (first_of test (suc p) n)
+-- the first of n numbers from p on that passes the test
+unfoldable pub first_of : (ℕ → Bool) → ℕ → ℕ → Option ℕ
+first_of test p zero = None
+first_of test p (suc n) = cond (test p) (Some p) (first_of test (suc p) n)
 
 -- the first pass that has a frequency that is NaN
-unfoldable pub nan_pass : List ℕ → List Float → ℕ
+unfoldable pub nan_pass : List ℕ → List Float → Option ℕ
 nan_pass counts freqs = first_of (λ p. any_nan (pass_of counts p freqs)) 0 (length counts)
 
 -- two lists have one length and like elements
@@ -33,8 +33,8 @@ alike counts times freqs p q =
     not (eqb (count_of counts p) 0)
     && (same level (pass_of counts p times) (pass_of counts q times) && same eq (pass_of counts p freqs) (pass_of counts q freqs))
 
--- the first pass before q that is like it; q if none is
-unfoldable pub twin_of : List ℕ → List ℤ → List Float → ℕ → ℕ
+-- the first pass before q that is like it
+unfoldable pub twin_of : List ℕ → List ℤ → List Float → ℕ → Option ℕ
 twin_of counts times freqs q = first_of (λ p. alike counts times freqs p q) 0 q
 
 -- at most 16 counts, which add up to so many samples

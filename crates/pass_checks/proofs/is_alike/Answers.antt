@@ -1,14 +1,29 @@
 -- `is_alike` meets its contract. Assumes nothing.
-use Rattle.pass_checks.proofs.Walks.{none_counted, unlike_times, like_times}
+use Rattle.std.proofs.Common.{refl, sym, ap₂, ◌∙◌, int_eq}
+use lib.Ieee.{eq}
+use Rattle.std.specs.Cmp.Lexicographic.{pointwise}
+use Rattle.pass_checks.proofs.Walks.{none_counted, no_count, unlike_times, like_times, level_is, same_is}
+use Rattle.pass_checks.proofs.is_alike.Goals.{then-counts-p-ne0, else-counts-p-ne0}
 use Rattle.pass_checks.proofs.is_alike.Goals as goal
 
-pub returns-then-counts-p-eq0 : goal.returns-then-counts-p-eq0
-returns-then-counts-p-eq0 c = none_counted _ _ _ _ _ c.if-counts-p-eq0.true
+pub returns-then-eq : goal.returns-then-eq
+returns-then-eq c =
+    elim c.if-counts-p-ne0.branch [
+      | then-counts-p-ne0 w ↦
+          like_times _ _ _ _ _ w.if-counts-p-ne0.true
+          (w.eq.ensures ∙ ap₂ (pointwise int_eq) w.pass_of.ensures w.pass_of-then-counts-p-ne0.ensures ∙ same_is int_eq level_is _ _)
+          (sym w.value-is ∙ c.if-eq.true)
+          (c.eq-then-eq.ensures ∙ ap₂ (pointwise eq) c.pass_of-then-eq.ensures c.pass_of-then-eq-2.ensures ∙ same_is eq (λ x y. refl) _ _)
+      | else-counts-p-ne0 w ↦ let none = no_count w.if-counts-p-ne0.false w.value-is in let some = c.if-eq.true in cc
+    ]
 
-pub returns-then-not-pass_times : goal.returns-then-not-pass_times
-returns-then-not-pass_times c =
-    unlike_times _ _ _ _ _ c.if-counts-p-eq0.false c.pass_times.ensures (c.if-not-pass_times.true)
-
-pub returns : goal.returns
-returns c =
-    like_times _ _ _ _ _ c.if-counts-p-eq0.false c.pass_times.ensures (c.if-not-pass_times.false) c.pass_freqs.ensures
+pub returns-else-eq : goal.returns-else-eq
+returns-else-eq c =
+    elim c.if-counts-p-ne0.branch [
+      | then-counts-p-ne0 w ↦
+          c.if-eq.false
+          ∙ unlike_times _ _ _ _ _ w.if-counts-p-ne0.true
+          (w.eq.ensures ∙ ap₂ (pointwise int_eq) w.pass_of.ensures w.pass_of-then-counts-p-ne0.ensures ∙ same_is int_eq level_is _ _)
+          (sym w.value-is ∙ c.if-eq.false)
+      | else-counts-p-ne0 w ↦ c.if-eq.false ∙ none_counted _ _ _ _ _ w.if-counts-p-ne0.false
+    ]
