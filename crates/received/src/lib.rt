@@ -8,8 +8,8 @@ ghost use Rattle.received.specs.Mirror.{mirrored, mirrored_all};
 fn mirror_pass(center: f64, freqs: &mut [f64])
     ensures { freqs.new ≡ map (mirrored center) freqs.old }
 {
-    for k in 0..freqs.len() {
-        freqs[k] = (center + center) - freqs[k];
+    for f in freqs.iter_mut() {
+        *f = (center + center) - *f;
     }
 }
 
@@ -19,8 +19,8 @@ pub fn mirror(counts: &[u32], centers: &[f64], freqs: &mut [f64])
     ensures { freqs.new ≡ mirrored_all counts.now centers.now freqs.old }
 {
     let mut at = 0usize;
-    for p in 0..counts.len() {
-        let end = at + counts[p] as usize;
+    for (p, &n) in counts.iter().enumerate() {
+        let end = at + n as usize;
         mirror_pass(centers[p], &mut freqs[at..end]);
         at = end;
     }

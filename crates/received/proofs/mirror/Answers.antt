@@ -9,7 +9,7 @@ pub loop-p-init : goal.loop-p-init
 loop-p-init c = (refl, c.requires, begin_all _ _ _)
 
 pub overflow_cast-end : goal.overflow_cast-end
-overflow_cast-end c = omega (arith, c.shared_slice_known-in-loop-p-1.given c.loop-p.p)
+overflow_cast-end c = omega (arith, c.type_inv.counts c.loop-p.p)
 
 pub overflow_add-end : goal.overflow_add-end
 overflow_add-end c = omega (arith, pass_room _ _ c.loop-p.invariant.1 c.loop-p.invariant.2 c.loop-p-test.true, c.loop-p.invariant.1.small)

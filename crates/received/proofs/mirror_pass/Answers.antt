@@ -6,13 +6,13 @@ use Rattle.received.specs.Mirror.{mirrored}
 use Rattle.received.proofs.Mirrors.{begin_pass, next_sample, end_pass}
 use Rattle.received.proofs.mirror_pass.Goals as goal
 
-pub loop-k-init : goal.loop-k-init
-loop-k-init c = (refl, begin_pass _ _)
+pub loop-f-init : goal.loop-f-init
+loop-f-init c = (refl, begin_pass _ _)
 
-pub loop-k-preserved : goal.loop-k-preserved
+pub loop-f-preserved : goal.loop-f-preserved
 unfolding mirrored
-loop-k-preserved c =
-    (search rules, next_sample (omega (arith, c.loop-k-test.true, c.loop-k.invariant.0)) c.loop-k.invariant.1 refl)
+loop-f-preserved c =
+    (search rules, next_sample (omega (arith, c.loop-f-test.true, c.loop-f.invariant.0)) c.loop-f.invariant.1 refl)
 
 pub returns : goal.returns
-returns c = end_pass (omega (arith, c.loop-k-test.false, c.loop-k.invariant.0)) c.loop-k.invariant.1
+returns c = end_pass (omega (arith, c.loop-f-test.false, c.loop-f.invariant.0)) c.loop-f.invariant.1
