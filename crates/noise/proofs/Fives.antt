@@ -1,13 +1,14 @@
 -- The noise of windows of five samples. Assumes nothing.
-use mathlib.Core.Path.{◌≡◌, sym, ap, ◌∙◌}
-use mathlib.Core.Bool.{Bool, true, false}
-use mathlib.Core.List.{List}
+use mathlib.Core.Path.{◌≡◌, refl, sym, ap, ◌∙◌}
+use mathlib.Core.Bool.{Bool, true, false, ◌&&◌}
+use mathlib.Core.List.{List, [], ◌∷◌}
+use Rattle.std.specs.List.{list_all}
 use Prim.Native.Nat.{ℕ, ◌+◌, ◌-◌, ◌≤◌, ◌<◌}
 use lib.IntN.{ℤ, pos}
-use lib.Ieee.{Float, nan}
+use lib.Ieee.{Float, nan, ne}
 use lib.ListN.{length, get_or}
 use borrow.Author.Tests.{lt-ltb, le-ltb}
-use Rattle.float.specs.Ops.{◌⊕◌, ◌⊗◌, ◌⊘◌, one}
+use Rattle.float.specs.Ops.{◌⊕◌, ◌⊗◌, ◌⊘◌, bits, one}
 use Rattle.roots.specs.Root.{sqrt_of}
 use Rattle.loops.specs.Loop.{for}
 use Rattle.moment.specs.Time.{tau_of, nanos_of}
@@ -55,6 +56,15 @@ module _ (times : List ℤ) (k j : ℕ) where
   in_times h g u v p q e = rw (e, p, q, lt-ltb k (length times) h, lt-ltb j (length times) g)
 
 -- ---- a window
+
+last_of : (b : Bool) → (b && true) ≡ b
+last_of true = refl
+last_of false = refl
+
+-- the library's test of all five
+pub apart_all : (p : Five) → list_all (λ x. ne x (bits 0)) (p.a ∷ p.b ∷ p.c ∷ p.d ∷ p.e ∷ []) ≡ apart_of p
+unfolding apart_of ne
+apart_all p = simp last_of
 
 module _ (times : List ℤ) (freqs : List Float) (k : ℕ) (s : Sums) {p : Five} {a : Bool} (ep : p ≡ products_at times k) (ea : a ≡ apart_of p) where
   pub like : a ≡ false → s ≡ window_of times freqs k s

@@ -37,26 +37,22 @@ pub enum Finding {
 fn between(t: i64, e: i64) -> f64
     ensures { result ≡ between_of t e }
 {
-    if !moment::sample::in_range(t) {
-        return 0.0 / 0.0;
+    if moment::sample::in_range(t) && moment::sample::in_range(e) {
+        moment::time::tau(moment::sample::of_nanos(t), moment::sample::of_nanos(e))
+    } else {
+        0.0 / 0.0
     }
-    if !moment::sample::in_range(e) {
-        return 0.0 / 0.0;
-    }
-    moment::time::tau(moment::sample::of_nanos(t), moment::sample::of_nanos(e))
 }
 
 // From sample j to sample k; NaN past the last sample.
 fn seconds(times: &[i64], k: usize, j: usize) -> f64
     ensures { result ≡ seconds_at times.now k j }
 {
-    if times.len() <= k {
-        return 0.0 / 0.0;
+    if k < times.len() && j < times.len() {
+        between(times[k], times[j])
+    } else {
+        0.0 / 0.0
     }
-    if times.len() <= j {
-        return 0.0 / 0.0;
-    }
-    between(times[k], times[j])
 }
 
 // The moments of five samples, each counted once, from the first of them: were each distance cut to microseconds by itself, the
@@ -103,22 +99,7 @@ fn products(times: &[i64], k: usize) -> Five
 fn apart(p: Five) -> bool
     ensures { result ≡ apart_of p }
 {
-    if p.a == 0.0 {
-        return false;
-    }
-    if p.b == 0.0 {
-        return false;
-    }
-    if p.c == 0.0 {
-        return false;
-    }
-    if p.d == 0.0 {
-        return false;
-    }
-    if p.e == 0.0 {
-        return false;
-    }
-    true
+    [p.a, p.b, p.c, p.d, p.e].iter().all(|x| *x != 0.0)
 }
 
 fn weights(p: Five) -> Five
@@ -137,10 +118,10 @@ fn weights(p: Five) -> Five
 pub fn number_at(l: &[f64], k: usize) -> f64
     ensures { result ≡ get_or l.now k nan }
 {
-    if k < l.len() {
-        return l[k];
+    match l.get(k) {
+        Some(x) => *x,
+        None => 0.0 / 0.0,
     }
-    0.0 / 0.0
 }
 
 fn frequencies(freqs: &[f64], k: usize) -> Five
@@ -182,7 +163,7 @@ fn window(times: &[i64], freqs: &[f64], k: usize, s: Sums) -> Sums
     Sums {
         squares: s.squares + n * n,
         windows: s.windows + 1.0,
-        at: s.at,
+        ..s
     }
 }
 
@@ -206,18 +187,10 @@ fn pass(times: &[i64], freqs: &[f64], n: u32, s: Sums) -> Sums
     let at = s.at;
     let end = at + n as usize;
     if n < 5 {
-        return Sums {
-            squares: s.squares,
-            windows: s.windows,
-            at: end,
-        };
+        return Sums { at: end, ..s };
     }
     let w = windows(times, freqs, at, end - 4, s);
-    Sums {
-        squares: w.squares,
-        windows: w.windows,
-        at: end,
-    }
+    Sums { at: end, ..w }
 }
 
 // The noise of the samples, in Hz. NaN where no pass has five neighbouring samples with unlike moments, where the sizes disagree with the
@@ -233,8 +206,8 @@ pub fn estimate(counts: &[u32], times: &[i64], freqs: &[f64]) -> f64
         windows: 0.0,
         at: 0,
     };
-    for p in 0..counts.len() {
-        s = pass(times, freqs, counts[p], s);
+    for n in counts {
+        s = pass(times, freqs, *n, s);
     }
     roots::sqrt(s.squares / s.windows)
 }
@@ -259,10 +232,7 @@ pub fn verdict(rms: f64, estimate: f64, passes: usize) -> Finding
     if passes < 3 {
         return Finding::TwoPasses;
     }
-    if rms != rms {
-        return Finding::Untold;
-    }
-    if !(estimate < 1.0 / 0.0) {
+    if rms != rms || !(estimate < 1.0 / 0.0) {
         return Finding::Untold;
     }
     if rms <= bound(estimate) {

@@ -1,26 +1,15 @@
-use Rattle.noise.specs.Noise.{apart_of}
+use Rattle.std.proofs.Common.{rules, tests, ◌∙◌, [], ◌∷◌}
+use Rattle.std.proofs.lemmas.Iterator.{YieldsList-from_slice}
+use Rattle.std.proofs.lemmas.Iterator.Search.{all_from_yields_List}
+use lib.Ieee.{Float, ne}
+use mathlib.Core.Bool.{Bool}
+use Rattle.float.specs.Ops.{bits}
+use Rattle.noise.proofs.Fives.{apart_all}
 use Rattle.noise.proofs.apart.Goals as goal
 
-pub returns-then-p : goal.returns-then-p
-unfolding apart_of
-returns-then-p c = simp c.if-p.true
-
-pub returns-then-p-2 : goal.returns-then-p-2
-unfolding apart_of
-returns-then-p-2 c = simp (c.if-p.false, c.if-p-2.true)
-
-pub returns-then-p-3 : goal.returns-then-p-3
-unfolding apart_of
-returns-then-p-3 c = simp (c.if-p.false, c.if-p-2.false, c.if-p-3.true)
-
-pub returns-then-p-4 : goal.returns-then-p-4
-unfolding apart_of
-returns-then-p-4 c = simp (c.if-p.false, c.if-p-2.false, c.if-p-3.false, c.if-p-4.true)
-
-pub returns-then-p-5 : goal.returns-then-p-5
-unfolding apart_of
-returns-then-p-5 c = simp (c.if-p.false, c.if-p-2.false, c.if-p-3.false, c.if-p-4.false, c.if-p-5.true)
-
 pub returns : goal.returns
-unfolding apart_of
-returns c = simp (c.if-p.false, c.if-p-2.false, c.if-p-3.false, c.if-p-4.false, c.if-p-5.false)
+returns c =
+    let p = c.args.p in
+    let test : Float → Bool = λ x. ne x (bits 0) in
+    all_from_yields_List test _ _ c.all.result c.all.ensures.ran (YieldsList-from_slice (p.a ∷ p.b ∷ p.c ∷ p.d ∷ p.e ∷ []) cc) (λ x b q k. search (rules, tests))
+    ∙ apart_all p
