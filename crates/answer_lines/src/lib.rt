@@ -9,7 +9,7 @@ ghost use Rattle.std.specs.Float.{nan, binary64};
 ghost use Rattle.std.specs.Float.Ieee.{to_bits};
 ghost use Rattle.std.specs.Int.{w64};
 ghost use Rattle.std.proofs.Common.{of_z};
-ghost use Rattle.answer_lines.specs.Lines.{first_place, begins_with, line_word, occurs, asked_fields, answer_fields, fields_from, after_list, field_at, float_field, count_field, signed_field, packed_byte, every, float_items, same_list, same_bytes, same_counts, same_signed, same_floats, FilledBy, freq_list, ReadsSet};
+ghost use Rattle.answer_lines.specs.Lines.{first_place, begins_with, line_word, occurs, asked_fields, answer_fields, fields_from, after_list, field_at, float_field, count_field, signed_field, packed_byte, every, same_list, FilledBy, freq_list, ReadsSet};
 
 use frame::Vec3;
 use moment::Moment;
@@ -257,18 +257,6 @@ pub fn fill<T: Element>(fields: &[u8], out: &mut [T])
     }
 }
 
-pub fn bytes(fields: &[u8], out: &mut [u8])
-    ensures { FilledBy (packed_byte fields.now) 0 out.new }
-{
-    fill(fields, out);
-}
-
-pub fn floats(fields: &[u8], out: &mut [f64])
-    ensures { FilledBy (float_field fields.now) nan out.new }
-{
-    fill(fields, out);
-}
-
 // How long a pass set's lists are said to be.
 #[derive(Clone, Copy)]
 pub struct SetSizes {
@@ -317,42 +305,11 @@ pub fn first<T>(x: &[T], n: u64) -> &[T]
     &x[..n.min(x.len() as u64) as usize]
 }
 
-pub fn first_bytes(x: &[u8], n: u64) -> &[u8]
-    ensures { result.now ≡ take n x.now }
-{
-    first(x, n)
-}
-
-pub fn first_floats(x: &[f64], n: u64) -> &[f64]
-    ensures { result.now ≡ take n x.now }
-{
-    first(x, n)
-}
-
-pub fn first_counts(x: &[u32], n: u64) -> &[u32]
-    ensures { result.now ≡ take n x.now }
-{
-    first(x, n)
-}
-
-pub fn first_times(x: &[i64], n: u64) -> &[i64]
-    ensures { result.now ≡ take n x.now }
-{
-    first(x, n)
-}
-
 // Whether these are the elements of the fields.
-fn elements_are<T: Element>(fields: &[u8], x: &[T]) -> bool
+pub fn elements_are<T: Element>(fields: &[u8], x: &[T]) -> bool
     ensures { result ≡ every (T.is fields.now) 0 x.now }
 {
     x.iter().enumerate().all(|(i, x)| x.is(fields, i))
-}
-
-#[tactic(auto, unfolding(crate::specs::Lines::float_items))]
-pub fn floats_are(fields: &[u8], x: &[f64]) -> bool
-    ensures { result ≡ float_items fields.now x.now }
-{
-    elements_are(fields, x)
 }
 
 // Whether the list that begins at the first field has n elements, the first n of these.
@@ -360,32 +317,4 @@ pub fn same<T: Element>(fields: &[u8], n: usize, x: &[T]) -> bool
     ensures { result ≡ same_list (λ f. every (T.is f) 0) fields.now n x.now }
 {
     field(fields, 0) == n as u64 && n <= x.len() && elements_are(from(fields, 1), &x[..n])
-}
-
-#[tactic(auto, unfolding(crate::specs::Lines::byte_items))]
-pub fn same_bytes(fields: &[u8], n: usize, x: &[u8]) -> bool
-    ensures { result ≡ same_bytes fields.now n x.now }
-{
-    same(fields, n, x)
-}
-
-#[tactic(auto, unfolding(crate::specs::Lines::count_items))]
-pub fn same_counts(fields: &[u8], n: usize, x: &[u32]) -> bool
-    ensures { result ≡ same_counts fields.now n x.now }
-{
-    same(fields, n, x)
-}
-
-#[tactic(auto, unfolding(crate::specs::Lines::signed_items))]
-pub fn same_signed(fields: &[u8], n: usize, x: &[i64]) -> bool
-    ensures { result ≡ same_signed fields.now n x.now }
-{
-    same(fields, n, x)
-}
-
-#[tactic(auto, unfolding(crate::specs::Lines::float_items))]
-pub fn same_floats(fields: &[u8], n: usize, x: &[f64]) -> bool
-    ensures { result ≡ same_floats fields.now n x.now }
-{
-    same(fields, n, x)
 }

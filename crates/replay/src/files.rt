@@ -8,8 +8,8 @@ fn same_samples(fields: &[u8], n: usize, times: &[i64], freqs: &[f64]) -> bool {
     if times.len() < n {
         return false;
     }
-    answer_lines::same_signed(fields, n, times)
-        && answer_lines::same_floats(answer_lines::from(fields, 1 + n), n, freqs)
+    answer_lines::same(fields, n, times)
+        && answer_lines::same(answer_lines::from(fields, 1 + n), n, freqs)
 }
 
 // Whether the fields are: name seen, name, centre, times, frequencies.
@@ -19,7 +19,7 @@ fn same_file(bytes: &[u8], r: PassFile, times: &[i64], freqs: &[f64], fields: &[
     }
     let name = file::name(bytes, r);
     let list = answer_lines::from(fields, 1);
-    if !answer_lines::same_bytes(list, name.len(), name) {
+    if !answer_lines::same(list, name.len(), name) {
         return false;
     }
     let rest = answer_lines::from(list, 1 + (name.len() + 7) / 8);
@@ -75,7 +75,7 @@ fn read_into(
         return false;
     }
     let lists = answer_lines::from(answer, 6);
-    let listed = answer_lines::first_times(times, answer_lines::field(lists, 0)).len();
+    let listed = answer_lines::first(times, answer_lines::field(lists, 0)).len();
     same_samples(lists, listed, times, freqs)
 }
 
@@ -98,7 +98,7 @@ fn pass_set(bytes: &[u8], answer: &[u8]) -> bool {
         return false;
     }
     let list = answer_lines::from(answer, 1);
-    if !answer_lines::same_counts(list, n, &counts) {
+    if !answer_lines::same(list, n, &counts) {
         return false;
     }
     same_samples(answer_lines::from(list, 1 + n), set.samples, &times, &freqs)
@@ -111,7 +111,7 @@ fn of_bytes(line: &[u8], k: usize) -> bool {
     let answer = answer_lines::answer(line);
     let packed = answer_lines::from(asked, k);
     unpacked::unpack(packed, &mut room);
-    let bytes = answer_lines::first_bytes(&room, answer_lines::field(packed, 0));
+    let bytes = answer_lines::first(&room, answer_lines::field(packed, 0));
     if answer_lines::begins_with(line, b"file ") {
         return pass_file(bytes, answer);
     }

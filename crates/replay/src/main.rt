@@ -189,5 +189,5 @@ fn main(rt: HostRuntime) -> io::Result<()> {
     let t = compare(stdout, &text[..n]);
     let mut out = [0u8; 160];
     let k = report(t, &mut out);
-    stdout.write_all(answer_lines::first_bytes(&out, k as u64))
+    stdout.write_all(answer_lines::first(&out, k as u64))
 }

@@ -15,5 +15,5 @@ fn at_most(n: u64, most: usize) -> usize
 pub(crate) fn unpack(fields: &[u8], room: &mut [u8]) {
     let start = 0usize;
     let n = at_most(answer_lines::field(fields, 0), room.len());
-    answer_lines::bytes(answer_lines::from(fields, 1), &mut room[start..n]);
+    answer_lines::fill(answer_lines::from(fields, 1), &mut room[start..n]);
 }

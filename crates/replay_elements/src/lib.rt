@@ -26,13 +26,13 @@ fn same(answer: &[u8], e: Elements) -> bool {
 fn read_same(first: &[u8], n1: u64, second: &[u8], n2: u64, answer: &[u8]) -> bool {
     let mut line1 = [0u8; 256];
     let mut line2 = [0u8; 256];
-    answer_lines::bytes(first, &mut line1);
-    answer_lines::bytes(second, &mut line2);
+    answer_lines::fill(first, &mut line1);
+    answer_lines::fill(second, &mut line2);
     same(
         answer,
         element_lines::read_element_lines(
-            answer_lines::first_bytes(&line1, n1),
-            answer_lines::first_bytes(&line2, n2),
+            answer_lines::first(&line1, n1),
+            answer_lines::first(&line2, n2),
         ),
     )
 }

@@ -26,8 +26,8 @@ fn untouched(x: &[f64], n: usize) -> bool {
 
 // Whether the list at the first field is the first numbers of x, and the rest is untouched.
 fn same_list(fields: &[u8], x: &[f64]) -> bool {
-    let n = answer_lines::first_floats(x, answer_lines::field(fields, 0)).len();
-    if !answer_lines::same_floats(fields, n, x) {
+    let n = answer_lines::first(x, answer_lines::field(fields, 0)).len();
+    if !answer_lines::same(fields, n, x) {
         return false;
     }
     untouched(x, n)
@@ -41,7 +41,7 @@ fn same_epoch(fields: &[u8], t: Moment) -> bool {
 // Whether the fields are: a, i, raan0, u0, epoch, best sum, and as many sums as trials.
 fn same_fit(fields: &[u8], f: Fit) -> bool {
     let o = f.orbit;
-    if !answer_lines::floats_are(fields, &[o.a, o.i, o.raan0, o.u0]) {
+    if !answer_lines::elements_are(fields, &[o.a, o.i, o.raan0, o.u0]) {
         return false;
     }
     if !same_epoch(answer_lines::from(fields, 4), o.epoch) {
@@ -89,13 +89,13 @@ fn same_outputs(
 // A fit of the stored bytes; the fields after them are: centres, receiver, initial a and i, name.
 fn fits(bytes: &[u8], fields: &[u8], answer: &[u8]) -> bool {
     let mut centers = [0.0; 16];
-    answer_lines::floats(answer_lines::from(fields, 1), &mut centers);
-    let given = answer_lines::first_floats(&centers, answer_lines::field(fields, 0));
+    answer_lines::fill(answer_lines::from(fields, 1), &mut centers);
+    let given = answer_lines::first(&centers, answer_lines::field(fields, 0));
     let rest = answer_lines::after_list(fields);
     let mut letters = [0u8; 64];
     let last = answer_lines::from(rest, 5);
-    answer_lines::bytes(answer_lines::from(last, 1), &mut letters);
-    let name = answer_lines::first_bytes(&letters, answer_lines::field(last, 0));
+    answer_lines::fill(answer_lines::from(last, 1), &mut letters);
+    let name = answer_lines::first(&letters, answer_lines::field(last, 0));
     let mut dts = [UNTOUCHED; 20];
     let mut dfs = [UNTOUCHED; 20];
     let mut df1s = [UNTOUCHED; 20];
@@ -155,8 +155,8 @@ fn fits(bytes: &[u8], fields: &[u8], answer: &[u8]) -> bool {
 fn determine(line: &[u8]) -> bool {
     let mut room = rooms::stored_set();
     let asked = answer_lines::asked(line);
-    answer_lines::bytes(answer_lines::from(asked, 1), &mut room);
-    let bytes = answer_lines::first_bytes(&room, answer_lines::field(asked, 0));
+    answer_lines::fill(answer_lines::from(asked, 1), &mut room);
+    let bytes = answer_lines::first(&room, answer_lines::field(asked, 0));
     let rest = answer_lines::from(asked, 1 + (bytes.len() + 7) / 8);
     fits(bytes, rest, answer_lines::answer(line))
 }

@@ -14,7 +14,7 @@ const SAMPLES: usize = 64;
 // The list at the first field; past its end stand other numbers, of which nothing is used.
 fn params_at(fields: &[u8]) -> [f64; PARAMS] {
     let mut out = [0.0; PARAMS];
-    answer_lines::floats(answer_lines::from(fields, 1), &mut out);
+    answer_lines::fill(answer_lines::from(fields, 1), &mut out);
     out
 }
 
@@ -35,9 +35,9 @@ fn same_state(fields: &[u8], n: usize, s: State) -> bool {
     let params = s.params;
     let kept = s.best_params;
     let rest = answer_lines::after_list(fields);
-    answer_lines::same_floats(fields, n, &params)
-        && answer_lines::floats_are(rest, &[s.damping, s.best])
-        && answer_lines::same_floats(answer_lines::from(rest, 2), n, &kept)
+    answer_lines::same(fields, n, &params)
+        && answer_lines::elements_are(rest, &[s.damping, s.best])
+        && answer_lines::same(answer_lines::from(rest, 2), n, &kept)
 }
 
 // What the original answers to a trial: too few residuals end its first refinement and refuse its second.
@@ -162,8 +162,8 @@ fn residuals(
     }
     let list = answer_lines::from(answer, 1);
     let rows = residuals::rows_of(second, times.len(), counts.len());
-    answer_lines::same_floats(list, rows, &out)
-        && answer_lines::floats_are(answer_lines::after_list(list), &[r.sum])
+    answer_lines::same(list, rows, &out)
+        && answer_lines::elements_are(answer_lines::after_list(list), &[r.sum])
 }
 
 // The line asked with its set, `rest` being the fields after it: the first refinement takes the first two non-empty passes, the second all.
@@ -188,9 +188,9 @@ fn asked(
     let passes = if second { kept.passes as u64 } else { 2 };
     let two = std::num::wrapping_add_u64(all[0] as u64, all[1] as u64);
     let samples = if second { times.len() as u64 } else { two };
-    let c = answer_lines::first_counts(&all, passes);
-    let t = answer_lines::first_times(times, samples);
-    let f = answer_lines::first_floats(freqs, samples);
+    let c = answer_lines::first(&all, passes);
+    let t = answer_lines::first(times, samples);
+    let f = answer_lines::first(freqs, samples);
     let answer = answer_lines::answer(line);
     let rec_ecef = answer_lines::vec3(rest);
     let more = answer_lines::from(rest, 3);
@@ -216,10 +216,10 @@ fn asked_of(second: bool, line: &[u8]) -> bool {
     asked(
         second,
         line,
-        answer_lines::first_counts(&counts, n.counts),
-        answer_lines::first_times(&times, n.times),
-        answer_lines::first_floats(&freqs, n.freqs),
-        answer_lines::first_floats(&centers, n.centers),
+        answer_lines::first(&counts, n.counts),
+        answer_lines::first(&times, n.times),
+        answer_lines::first(&freqs, n.freqs),
+        answer_lines::first(&centers, n.centers),
         answer_lines::after_set(set),
     )
 }

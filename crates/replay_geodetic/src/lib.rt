@@ -11,7 +11,7 @@ fn same(answer: &[u8], p: Result<Vec3, Refusal>) -> bool {
     match p {
         Ok(v) => {
             answer_lines::refused(answer, 0)
-                && answer_lines::floats_are(answer_lines::from(answer, 1), &[v.x, v.y, v.z])
+                && answer_lines::elements_are(answer_lines::from(answer, 1), &[v.x, v.y, v.z])
         }
         Err(r) => answer_lines::refused(answer, r.number()),
     }
@@ -25,8 +25,8 @@ fn wgs84(asked: &[u8], answer: &[u8]) -> bool {
 // The longest stored line has 302 bytes.
 fn position(asked: &[u8], answer: &[u8]) -> bool {
     let mut room = [0u8; 512];
-    answer_lines::bytes(answer_lines::from(asked, 1), &mut room);
-    let line = answer_lines::first_bytes(&room, answer_lines::field(asked, 0));
+    answer_lines::fill(answer_lines::from(asked, 1), &mut room);
+    let line = answer_lines::first(&room, answer_lines::field(asked, 0));
     same(answer, geodetic::line::read_position(line))
 }
 

@@ -114,7 +114,7 @@ fn same_text(stored: &[u8], written: &[u8]) -> bool
         return false;
     }
     let at = written.len() - 70;
-    if !answer_lines::begins_with(written, answer_lines::first_bytes(stored, at as u64)) {
+    if !answer_lines::begins_with(written, answer_lines::first(stored, at as u64)) {
         return false;
     }
     same_line_2(
@@ -129,9 +129,9 @@ fn same_packed(fields: &[u8], n: usize, text: &[u8]) -> bool
     ensures { result ≡ text_agrees (packed_bytes fields.now 0 n) (take n text.now) }
 {
     let mut room = [0u8; 165];
-    answer_lines::bytes(fields, &mut room);
-    let stored = answer_lines::first_bytes(&room, n as u64);
-    same_text(stored, answer_lines::first_bytes(text, n as u64))
+    answer_lines::fill(fields, &mut room);
+    let stored = answer_lines::first(&room, n as u64);
+    same_text(stored, answer_lines::first(text, n as u64))
 }
 
 // It stands behind its length, 165 bytes at most.

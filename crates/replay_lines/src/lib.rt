@@ -26,10 +26,10 @@ fn lines(asked: &[u8], answer: &[u8]) -> bool {
         return false;
     }
     let mut name = [0u8; 40];
-    answer_lines::bytes(answer_lines::from(asked, 1), &mut name);
+    answer_lines::fill(answer_lines::from(asked, 1), &mut name);
     let orbit = orbit_at(answer_lines::from(asked, 1 + (n as usize + 7) / 8));
     let mut out = [0u8; 165];
-    let r = tle::format_tle_catalog(answer_lines::first_bytes(&name, n), orbit, &mut out);
+    let r = tle::format_tle_catalog(answer_lines::first(&name, n), orbit, &mut out);
     agreement::same_lines(answer, r, &out)
 }
 
@@ -40,8 +40,8 @@ fn checksum(asked: &[u8], answer: &[u8]) -> bool {
         return false;
     }
     let mut line = [0u8; 100];
-    answer_lines::bytes(answer_lines::from(asked, 1), &mut line);
-    answer_lines::field(answer, 0) == tle::tle_checksum(answer_lines::first_bytes(&line, n)) as u64
+    answer_lines::fill(answer_lines::from(asked, 1), &mut line);
+    answer_lines::field(answer, 0) == tle::tle_checksum(answer_lines::first(&line, n)) as u64
 }
 
 fn checked(line: &[u8]) -> bool {

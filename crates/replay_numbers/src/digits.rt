@@ -25,12 +25,12 @@ fn same_inverse(answer: &[u8], a: Result<u64, Refusal>) -> bool {
 fn history(asked: &[u8], answer: &[u8]) -> bool {
     let mut room = [0.0f64; 100];
     let mut out = [0.0f64; 64];
-    answer_lines::floats(answer_lines::from(asked, 1), &mut room);
-    let x = answer_lines::first_floats(&room, answer_lines::field(asked, 0));
+    answer_lines::fill(answer_lines::from(asked, 1), &mut room);
+    let x = answer_lines::first(&room, answer_lines::field(asked, 0));
     let n = x.len();
     match monna::compute_fractional_difference_history(x, &mut out) {
         Ok(()) => answer_lines::refused(answer, 0)
-            && answer_lines::same_floats(answer_lines::from(answer, 1), n, &out),
+            && answer_lines::same(answer_lines::from(answer, 1), n, &out),
         Err(r) => answer_lines::refused(answer, r.number()),
     }
 }
@@ -42,7 +42,7 @@ fn normal(asked: &[u8], answer: &[u8]) -> bool {
         answer_lines::float(asked, 2),
     ];
     let x = monna::map_to_normalized_search_space(place);
-    answer_lines::same_floats(answer, 15, &x)
+    answer_lines::same(answer, 15, &x)
 }
 
 pub(crate) fn agrees(line: &[u8]) -> bool {

@@ -4,7 +4,7 @@ use orbit::doppler::DfPoly;
 use refusal::Refusal;
 
 fn same_state(fields: &[u8], s: State) -> bool {
-    answer_lines::floats_are(fields, &[s.x, s.y, s.z, s.vx, s.vy, s.vz])
+    answer_lines::elements_are(fields, &[s.x, s.y, s.z, s.vx, s.vy, s.vz])
 }
 
 // The answer is this number, or this refusal.

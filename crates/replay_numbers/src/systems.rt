@@ -6,7 +6,7 @@ fn same_solution(matrix: &[f64], vector: &[f64], n: usize, answer: &[u8]) -> boo
     let mut scratch = rooms::elimination();
     match linear::solve_linear_system(matrix, vector, n, &mut out, &mut scratch) {
         Ok(()) => answer_lines::refused(answer, 0)
-            && answer_lines::same_floats(answer_lines::from(answer, 1), n, &out),
+            && answer_lines::same(answer_lines::from(answer, 1), n, &out),
         Err(r) => answer_lines::refused(answer, r.number()),
     }
 }
@@ -14,16 +14,16 @@ fn same_solution(matrix: &[f64], vector: &[f64], n: usize, answer: &[u8]) -> boo
 // The fields are the list of the right-hand side.
 fn with_vector(matrix: &[f64], fields: &[u8], n: usize, answer: &[u8]) -> bool {
     let mut room = [0.0f64; 80];
-    answer_lines::floats(answer_lines::from(fields, 1), &mut room);
-    let vector = answer_lines::first_floats(&room, answer_lines::field(fields, 0));
+    answer_lines::fill(answer_lines::from(fields, 1), &mut room);
+    let vector = answer_lines::first(&room, answer_lines::field(fields, 0));
     same_solution(matrix, vector, n, answer)
 }
 
 // The number of rows, the list of the matrix, the list of the right-hand side.
 fn solve(asked: &[u8], answer: &[u8]) -> bool {
     let mut room = rooms::matrix();
-    answer_lines::floats(answer_lines::from(asked, 2), &mut room);
-    let matrix = answer_lines::first_floats(&room, answer_lines::field(asked, 1));
+    answer_lines::fill(answer_lines::from(asked, 2), &mut room);
+    let matrix = answer_lines::first(&room, answer_lines::field(asked, 1));
     let rest = answer_lines::from(answer_lines::from(asked, 2), matrix.len());
     with_vector(matrix, rest, answer_lines::field(asked, 0) as usize, answer)
 }

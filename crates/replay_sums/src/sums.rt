@@ -14,7 +14,7 @@ fn answered(answer: &[u8], refusal: u32, values: &[f64]) -> bool {
     if refusal != 0 {
         return true;
     }
-    answer_lines::floats_are(answer_lines::from(answer, 1), values)
+    answer_lines::elements_are(answer_lines::from(answer, 1), values)
 }
 
 // The fields before the set are: elements, epoch, receiver.
@@ -46,7 +46,7 @@ fn pca(
     if refusal != 0 {
         return true;
     }
-    answer_lines::same_signed(answer_lines::from(answer, 1), counts.len(), &out)
+    answer_lines::same(answer_lines::from(answer, 1), counts.len(), &out)
 }
 
 // The fields after the set are: receiver, elements, epoch, centre.
@@ -158,10 +158,10 @@ fn asked_at(line: &[u8], set: &[u8]) -> bool {
     let n = answer_lines::set(set, &mut counts, &mut centers, &mut times, &mut freqs);
     asked(
         line,
-        answer_lines::first_counts(&counts, n.counts),
-        answer_lines::first_times(&times, n.times),
-        answer_lines::first_floats(&freqs, n.freqs),
-        answer_lines::first_floats(&centers, n.centers),
+        answer_lines::first(&counts, n.counts),
+        answer_lines::first(&times, n.times),
+        answer_lines::first(&freqs, n.freqs),
+        answer_lines::first(&centers, n.centers),
         answer_lines::after_set(set),
     )
 }

@@ -5,4 +5,4 @@ use Rattle.replay_lines.proofs.agreement.same_packed.Goals as goal
 
 pub returns : goal.returns
 returns c =
-    c.same_text.ensures ∙ simp (c.first_bytes-stored.ensures, unpacked c.args.fields.now c.bytes.new.out c.args.n (omega arith) c.bytes.ensures, c.first_bytes.ensures)
+    c.same_text.ensures ∙ simp (c.first-stored.ensures, unpacked c.args.fields.now c.fill.new.out c.args.n (omega arith) c.fill.ensures, c.first.ensures)

@@ -18,7 +18,7 @@ returns-then-written-lt70 c = simp (eq-eqb _ _ c.if-stored-written.false, lt-leb
 pub returns-then-not-begins_with : goal.returns-then-not-begins_with
 unfolding text_agrees
 returns-then-not-begins_with c =
-    simp (eq-eqb _ _ c.if-stored-written.false, le-leb _ _ c.if-written-lt70.false, ← c.first_bytes.ensures, ← c.begins_with.ensures, c.if-not-begins_with.true)
+    simp (eq-eqb _ _ c.if-stored-written.false, le-leb _ _ c.if-written-lt70.false, ← c.first.ensures, ← c.begins_with.ensures, c.if-not-begins_with.true)
 
 pub same_line_2-requires : goal.same_line_2-requires
 same_line_2-requires c =
@@ -31,4 +31,4 @@ same_line_2-requires c =
 pub returns : goal.returns
 unfolding text_agrees
 returns c =
-    simp (eq-eqb _ _ c.if-stored-written.false, le-leb _ _ c.if-written-lt70.false, ← c.first_bytes.ensures, ← c.begins_with.ensures, c.if-not-begins_with.false, ← c.after.ensures, ← c.after-2.ensures, c.same_line_2.ensures)
+    simp (eq-eqb _ _ c.if-stored-written.false, le-leb _ _ c.if-written-lt70.false, ← c.first.ensures, ← c.begins_with.ensures, c.if-not-begins_with.false, ← c.after.ensures, ← c.after-2.ensures, c.same_line_2.ensures)
