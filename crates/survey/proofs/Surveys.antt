@@ -1,6 +1,6 @@
 -- The walk over a file's lines. Assumes nothing.
 use mathlib.Core.Path.{◌≡◌, refl, sym, ap, ◌∙◌}
-use mathlib.Core.Bool.{Bool, true, false, cond}
+use mathlib.Core.Bool.{true, false}
 use mathlib.Core.List.{List, [], ◌∷◌}
 use Prim.Native.Nat.{ℕ, ◌+◌, ◌-◌, ◌≤◌, ◌<◌}
 use native.Mathlib.Omega.{arith}
@@ -10,7 +10,9 @@ use borrow.Author.Tests.{eq-eqb, ne_eqb}
 use Rattle.passes.specs.Text.{Placed, trim, lines, Trimmed}
 use Rattle.passes.specs.Line.{line_of}
 use Rattle.passes.proofs.Files.{LineAt, same_line}
-use Rattle.survey.specs.Survey.{class_of, first_line, counting, open_tally, surveyed, Small}
+use Rattle.survey.specs.Survey.{class_of, counting, open_tally, surveyed, Small}
+use Rattle.survey.specs.declared.Class.{Class}
+use Rattle.survey.specs.declared.Class.TheVariants.{Blank, Unread, Used, Refused}
 use Rattle.survey.specs.declared.Tally.{Tally}
 
 -- ---- an empty line
@@ -40,21 +42,14 @@ record Grows (s r : Tally) : Type 0 where
   few_used : r.used ≤ s.used + 1
   few_skipped : r.skipped ≤ s.skipped + 1
 
-grow_test : (a b c : Bool) (s : Tally) (f : ℕ)
-    → Grows s (cond a (record { lines = s.lines + 1; used = s.used; skipped = s.skipped; first = s.first; refused = s.refused })
-    (cond b (record { lines = s.lines + 1; used = s.used; skipped = s.skipped + 1; first = f; refused = s.refused })
-    (cond c (record { lines = s.lines + 1; used = s.used + 1; skipped = s.skipped; first = s.first; refused = s.refused })
-    (record { lines = s.lines + 1; used = s.used; skipped = s.skipped; first = s.first; refused = s.lines + 1 }))))
-grow_test true b c s f = record { few = omega arith; few_used = omega arith; few_skipped = omega arith }
-grow_test false true c s f = record { few = omega arith; few_used = omega arith; few_skipped = omega arith }
-grow_test false false true s f = record { few = omega arith; few_used = omega arith; few_skipped = omega arith }
-grow_test false false false s f = record { few = omega arith; few_used = omega arith; few_skipped = omega arith }
-
-grows : (s : Tally) (class : ℕ) → Grows s (counting s class)
+grows : (s : Tally) (class : Class) → Grows s (counting s class)
 unfolding counting
-grows s class = grow_test (eqb class 0) (eqb class 1) (eqb class 2) s (first_line s.first (s.lines + 1))
+grows s Blank = record { few = omega arith; few_used = omega arith; few_skipped = omega arith }
+grows s Unread = record { few = omega arith; few_used = omega arith; few_skipped = omega arith }
+grows s Used = record { few = omega arith; few_used = omega arith; few_skipped = omega arith }
+grows s Refused = record { few = omega arith; few_used = omega arith; few_skipped = omega arith }
 
-module _ {file : List ℕ} {at n next : ℕ} {s r : Tally} {class : ℕ} (w : Walking file at s) (l : LineAt file at n next)
+module _ {file : List ℕ} {at n next : ℕ} {s r : Tally} {class : Class} (w : Walking file at s) (l : LineAt file at n next)
     (k : class ≡ class_of (line_of (take (at + n - at) (drop at file))) (eqb (length (trim (take (at + n - at) (drop at file)))) 0)) (e : r ≡ counting s class) where
   here : r ≡ counting s (class_of (line_of (take n (drop at file))) (eqb (length (trim (take n (drop at file)))) 0))
   here = e ∙ ap (counting s) (k ∙ ap (λ (b : List ℕ). class_of (line_of b) (eqb (length (trim b)) 0)) (same_line file at n))

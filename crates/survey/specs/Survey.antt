@@ -5,27 +5,27 @@ use Rattle.passes.specs.Line.{line_of}
 use Rattle.passes.specs.declared.line.Line.{Line}
 use Rattle.passes.specs.declared.line.Line.TheVariants.{Skipped, Name, Center, Sample}
 use Rattle.refusal.specs.declared.Refusal.{Refusal}
+use Rattle.survey.specs.declared.Class.{Class}
+use Rattle.survey.specs.declared.Class.TheVariants.{Blank, Unread, Used, Refused}
 use Rattle.survey.specs.declared.Tally.{Tally}
 
--- 0: empty; 1: skipped; 2: it says something; 3: refused
-abbrev pub class_of : Result Line Refusal → Bool → ℕ
-class_of (Ok Skipped) blank = cond blank 0 1
-class_of (Err r) blank = 3
-class_of (Ok (Name n)) blank = 2
-class_of (Ok (Center f)) blank = 2
-class_of (Ok (Sample t f)) blank = 2
+abbrev pub class_of : Result Line Refusal → Bool → Class
+class_of (Ok Skipped) blank = cond blank Blank Unread
+class_of (Err r) blank = Refused
+class_of (Ok (Name n)) blank = Used
+class_of (Ok (Center f)) blank = Used
+class_of (Ok (Sample t f)) blank = Used
 
 -- the first of two lines, 0 being none
 unfoldable pub first_line : ℕ → ℕ → ℕ
 first_line first line = cond (eqb first 0) line first
 
 -- one line more
-unfoldable pub counting : Tally → ℕ → Tally
-counting s class =
-    cond (eqb class 0) (record { lines = s.lines + 1; used = s.used; skipped = s.skipped; first = s.first; refused = s.refused })
-    (cond (eqb class 1) (record { lines = s.lines + 1; used = s.used; skipped = s.skipped + 1; first = first_line s.first (s.lines + 1); refused = s.refused })
-    (cond (eqb class 2) (record { lines = s.lines + 1; used = s.used + 1; skipped = s.skipped; first = s.first; refused = s.refused })
-    (record { lines = s.lines + 1; used = s.used; skipped = s.skipped; first = s.first; refused = s.lines + 1 })))
+unfoldable pub counting : Tally → Class → Tally
+counting s Blank = record { lines = s.lines + 1; used = s.used; skipped = s.skipped; first = s.first; refused = s.refused }
+counting s Unread = record { lines = s.lines + 1; used = s.used; skipped = s.skipped + 1; first = first_line s.first (s.lines + 1); refused = s.refused }
+counting s Used = record { lines = s.lines + 1; used = s.used + 1; skipped = s.skipped; first = s.first; refused = s.refused }
+counting s Refused = record { lines = s.lines + 1; used = s.used; skipped = s.skipped; first = s.first; refused = s.lines + 1 }
 
 abbrev pub open_tally : Tally
 open_tally = record { lines = 0; used = 0; skipped = 0; first = 0; refused = 0 }

@@ -9,13 +9,14 @@ ghost use Rattle.survey.specs.Survey.{class_of, first_line, counting, open_tally
 use passes::line::Line;
 use passes::{line, pieces};
 
-const BLANK: u8 = 0;
-
-const SKIPPED: u8 = 1;
-
-const USED: u8 = 2;
-
-const REFUSED: u8 = 3;
+// What became of a line: it is empty, it was skipped, it says something, or it was refused.
+#[derive(Clone, Copy)]
+enum Class {
+    Blank,
+    Unread,
+    Used,
+    Refused,
+}
 
 // How many lines were read, how many of them said something, how many were skipped without being empty, the first of these, and the
 // line that was refused; lines count from 1, and 0 stands for none.
@@ -28,66 +29,55 @@ pub struct Tally {
     pub refused: usize,
 }
 
-fn class(l: &[u8]) -> u8
+fn class_of(l: &[u8]) -> Class
     ensures { result ≡ class_of (line_of l.now) (eqb (length (trim l.now)) 0) }
 {
     let t = pieces::trim(l);
-    let x = line::read_line(l);
-    match x {
-        Err(_) => REFUSED,
-        Ok(Line::Skipped) => { if t.start == t.end { BLANK } else { SKIPPED } }
-        Ok(Line::Name(_) | Line::Center(_) | Line::Sample(_, _)) => USED,
+    match line::read_line(l) {
+        Err(_) => Class::Refused,
+        Ok(Line::Skipped) => {
+            if t.start == t.end {
+                Class::Blank
+            } else {
+                Class::Unread
+            }
+        }
+        Ok(Line::Name(_) | Line::Center(_) | Line::Sample(_, _)) => Class::Used,
     }
 }
 
+#[tactic(auto, unfolding(crate::specs::Survey::first_line))]
 fn first_of(first: usize, line: usize) -> usize
     ensures { result ≡ first_line first line }
 {
-    if first == 0 {
-        return line;
-    }
-    first
+    if first == 0 { line } else { first }
 }
 
 // One line more, of this class.
-fn counted(s: Tally, class: u8) -> Tally
+#[tactic(auto, unfolding(crate::specs::Survey::counting))]
+fn counted(s: Tally, class: Class) -> Tally
     requires { Small s }
     ensures { result ≡ counting s class }
 {
-    let n = s.lines + 1;
-    if class == BLANK {
-        return Tally {
-            lines: n,
-            used: s.used,
-            skipped: s.skipped,
-            first: s.first,
-            refused: s.refused,
-        };
-    }
-    if class == SKIPPED {
-        return Tally {
-            lines: n,
-            used: s.used,
+    let lines = s.lines + 1;
+    match class {
+        Class::Blank => Tally { lines, ..s },
+        Class::Unread => Tally {
+            lines,
             skipped: s.skipped + 1,
-            first: first_of(s.first, n),
-            refused: s.refused,
-        };
-    }
-    if class == USED {
-        return Tally {
-            lines: n,
+            first: first_of(s.first, lines),
+            ..s
+        },
+        Class::Used => Tally {
+            lines,
             used: s.used + 1,
-            skipped: s.skipped,
-            first: s.first,
-            refused: s.refused,
-        };
-    }
-    Tally {
-        lines: n,
-        used: s.used,
-        skipped: s.skipped,
-        first: s.first,
-        refused: n,
+            ..s
+        },
+        Class::Refused => Tally {
+            lines,
+            refused: lines,
+            ..s
+        },
     }
 }
 
@@ -107,7 +97,7 @@ pub fn survey(file: &[u8]) -> Tally
         let c = pieces::line(&file[at..]);
         let e = at + c.size;
         let next = c.next;
-        s = counted(s, class(&file[at..e]));
+        s = counted(s, class_of(&file[at..e]));
         if s.refused != 0 {
             return s;
         }

@@ -15,8 +15,8 @@ loop-at-init c = walk_begins _
 pub overflow_add-e : goal.overflow_add-e
 overflow_add-e c = let h = here (goal.at.overflow_add-e c).After-line-c in omega (arith, h.size, h.inside)
 
-pub slice_bounds-class-end : goal.slice_bounds-class-end
-slice_bounds-class-end c = let h = here (goal.at.slice_bounds-class-end c).After-line-c in omega (arith, h.size, h.inside)
+pub slice_bounds-class_of-end : goal.slice_bounds-class_of-end
+slice_bounds-class_of-end c = let h = here (goal.at.slice_bounds-class_of-end c).After-line-c in omega (arith, h.size, h.inside)
 
 pub counted-s-requires : goal.counted-s-requires
 counted-s-requires c =
@@ -24,7 +24,7 @@ counted-s-requires c =
 
 pub returns-then-s-ne0 : goal.returns-then-s-ne0
 returns-then-s-ne0 c =
-    walk_refused c.loop-at.invariant (here (goal.at.returns-then-s-ne0 c).After-line-c) c.class.ensures c.counted-s.ensures c.if-s-ne0.true
+    walk_refused c.loop-at.invariant (here (goal.at.returns-then-s-ne0 c).After-line-c) c.class_of.ensures c.counted-s.ensures c.if-s-ne0.true
 
 pub overflow_add-at : goal.overflow_add-at
 overflow_add-at c = let h = here (goal.at.overflow_add-at c).After-line-c in omega (arith, h.inside)
@@ -34,7 +34,7 @@ loop-at-smaller c = let h = here (goal.at.loop-at-smaller c).After-line-c in ome
 
 pub loop-at-preserved : goal.loop-at-preserved
 loop-at-preserved c =
-    walk_more c.loop-at.invariant (here (goal.at.loop-at-preserved c).After-line-c) c.class.ensures c.counted-s.ensures c.if-s-ne0.false
+    walk_more c.loop-at.invariant (here (goal.at.loop-at-preserved c).After-line-c) c.class_of.ensures c.counted-s.ensures c.if-s-ne0.false
 
 pub returns : goal.returns
 returns c = walk_ends c.loop-at-test.false c.loop-at.invariant
