@@ -24,10 +24,7 @@ pub fn is_off_ground(v: Vec3) -> bool
     ensures { result ≡ off_ground v }
 {
     let d = roots::sqrt(v.x * v.x + v.y * v.y + v.z * v.z);
-    if d < 6300e3 {
-        return true;
-    }
-    6500e3 < d
+    d < 6300e3 || 6500e3 < d
 }
 
 // Whether --as-received was said, which word the first file is, and how many files there are.
@@ -149,16 +146,10 @@ fn layout_of(received: bool, k: usize, files: usize) -> Layout
     requires { k ≤ 4 }
     ensures { result ≡ layout_of received k files }
 {
-    if received {
-        return Layout {
-            received,
-            first: 2 + k,
-            files,
-        };
-    }
+    let before = if received { 2 } else { 1 };
     Layout {
         received,
-        first: 1 + k,
+        first: before + k,
         files,
     }
 }

@@ -1,5 +1,5 @@
 -- `is_off_ground` meets its contract. Assumes nothing.
-use mathlib.Core.Path.{◌≡◌}
+use mathlib.Core.Path.{◌≡◌, ◌∙◌}
 use mathlib.Core.Bool.{true, false, ◌||◌}
 use lib.Ieee.{Float, lt}
 use Rattle.float.specs.Ops.{bits}
@@ -14,8 +14,8 @@ far {d} {e} p h = rw (← nearest_bits, ← farthest_bits, ← p, h)
 
 pub returns-then-d : goal.returns-then-d
 unfolding off_ground
-returns-then-d c = near c.sqrt-d.ensures c.if-d.true
+returns-then-d c = c.if-d.true ∙ near c.sqrt-d.ensures c.if-d.true
 
-pub returns : goal.returns
+pub returns-else-d : goal.returns-else-d
 unfolding off_ground
-returns c = far c.sqrt-d.ensures c.if-d.false
+returns-else-d c = far c.sqrt-d.ensures c.if-d.false
