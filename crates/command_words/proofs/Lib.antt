@@ -1,3 +1,4 @@
 pub mod Counted
 pub mod Taken
 pub mod AsBefore
+pub mod Commas

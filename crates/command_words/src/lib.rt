@@ -9,7 +9,6 @@ ghost use Rattle.command_words.specs.Words.{as_received, off_ground, is_line, ma
 use decimal::read;
 use decimal::read::NumberError;
 use frame::Vec3;
-use passes::pieces;
 use refusal::Refusal;
 
 // The word that says that frequencies are as a receiver hears them, in any case of its letters.
@@ -57,7 +56,7 @@ pub enum Request {
 fn is_line(w: &[u8]) -> bool
     ensures { result ≡ is_line w.now }
 {
-    pieces::until(b',', w) < w.len()
+    w.contains(&b',')
 }
 
 // How many words say mast and inclination.
