@@ -6,21 +6,14 @@ pub mod sums;
 pub mod turns;
 
 ghost use Rattle.std.specs.Prelude.{◌≡◌};
-ghost use Rattle.orbit.specs.Doppler.{station_at};
-ghost use Rattle.approach.specs.Sums.{rss_of, gradient_of};
-ghost use Rattle.approach.specs.Answers.{set_refusal_of, sum_refusal, FindsPcas, rss_answer, gradient_answer};
+ghost use Rattle.refusal.specs.Refusals.{answer};
+ghost use Rattle.approach.specs.Answers.{set_refusal_of, FindsPcas, compute_rss_of, compute_gradient_of};
 
 use frame::Vec3;
 use moment::{Instant, Moment};
 use orbit::Elements;
 use orbit::doppler::Station;
-
-// A sum, or the number of a refusal.
-#[derive(Clone, Copy)]
-pub struct Rss {
-    pub refusal: u32,
-    pub rss: f64,
-}
+use refusal::Refusal;
 
 // The sum's differences by a, i, raan0 and u0, each over its step.
 #[derive(Clone, Copy)]
@@ -29,13 +22,6 @@ pub struct Gradient {
     pub grad_i: f64,
     pub grad_raan: f64,
     pub grad_u0: f64,
-}
-
-// A gradient, or the number of a refusal.
-#[derive(Clone, Copy)]
-pub struct Gradients {
-    pub refusal: u32,
-    pub gradient: Gradient,
 }
 
 // A sample's distance from the centre frequency, and which it is.
@@ -60,22 +46,22 @@ pub struct Stage {
     pub n: u64,
 }
 
-// The first of a pass set's refusals 4 and 5 that is due, or 0.
-fn set_refusal(counts: &[u32], times: &[i64], freqs: &[f64], centers: &[f64]) -> u32
-    ensures { result ≡ set_refusal_of counts.now times.now freqs.now centers.now }
+// Refused: 4, a sample is outside 1957 to 2057; 5, sizes.
+fn accept_set(counts: &[u32], times: &[i64], freqs: &[f64], centers: &[f64]) -> Result<(), Refusal>
+    ensures { result ≡ answer (set_refusal_of counts.now times.now freqs.now centers.now) tt }
 {
     if !moment::sample::all_in_range(times) {
-        return refusal::MOMENT_RANGE;
+        return Err(Refusal::MomentRange);
     }
     if !pass_set::sizes_agree(counts, times.len(), freqs.len(), centers.len()) {
-        return refusal::SIZES;
+        return Err(Refusal::Sizes);
     }
-    0
+    Ok(())
 }
 
 // The predicted moment of closest approach of each pass, in nanoseconds since 1970, into the first places of out: the
 // closest of 61, then 21, then 5 moments around the sample closest to the first pass's centre. An empty pass has the epoch.
-// Refused: 4, the epoch or a sample is outside 1957 to 2057; 5, sizes; 21, out is shorter than counts. 0: not refused.
+// Refused: 4, the epoch or a sample is outside 1957 to 2057; 5, sizes; 21, out is shorter than counts.
 pub fn get_pred_pca_times(
     a: f64,
     i: f64,
@@ -88,18 +74,13 @@ pub fn get_pred_pca_times(
     freqs: &[f64],
     centers: &[f64],
     out: &mut [i64],
-) -> u32
+) -> Result<(), Refusal>
     ensures { FindsPcas a i raan u0 epoch rec_ecef counts.now times.now freqs.now centers.now out.old out.new result }
 {
-    let Ok(t) = Instant::try_from(epoch) else {
-        return refusal::MOMENT_RANGE;
-    };
-    let refusal = set_refusal(counts, times, freqs, centers);
-    if refusal != 0 {
-        return refusal;
-    }
+    let t = Instant::try_from(epoch)?;
+    accept_set(counts, times, freqs, centers)?;
     if out.len() < counts.len() {
-        return refusal::SHORT_MEMORY;
+        return Err(Refusal::ShortMemory);
     }
     let g = Station {
         epoch: t,
@@ -113,7 +94,7 @@ pub fn get_pred_pca_times(
         u0,
     };
     pca::pca_times(g, e, counts, times, freqs, centers, out);
-    0
+    Ok(())
 }
 
 // The sum of squares: for each pass 100 times the square of its closest moment's seconds from the observed one, and the
@@ -130,20 +111,11 @@ pub fn compute_rss(
     center_freq: f64,
     raan0: f64,
     u0: f64,
-) -> Rss
-    ensures { result ≡ rss_answer (sum_refusal epoch counts.now times.now freqs.now centers.now)
-        (rss_of (station_at epoch center_freq rec_ecef) (record { a = initial_a; i = initial_i; raan0 = raan0; u0 = u0 }) counts.now times.now freqs.now centers.now) }
+) -> Result<f64, Refusal>
+    ensures { result ≡ compute_rss_of epoch center_freq rec_ecef (record { a = initial_a; i = initial_i; raan0 = raan0; u0 = u0 }) counts.now times.now freqs.now centers.now }
 {
-    let Ok(t) = Instant::try_from(epoch) else {
-        return Rss {
-            refusal: refusal::MOMENT_RANGE,
-            rss: 0.0,
-        };
-    };
-    let refusal = set_refusal(counts, times, freqs, centers);
-    if refusal != 0 {
-        return Rss { refusal, rss: 0.0 };
-    }
+    let t = Instant::try_from(epoch)?;
+    accept_set(counts, times, freqs, centers)?;
     let g = Station {
         epoch: t,
         center_freq,
@@ -155,8 +127,7 @@ pub fn compute_rss(
         raan0,
         u0,
     };
-    let rss = sums::rss(counts, times, freqs, centers, &freqs[0..0], g, e);
-    Rss { refusal: 0, rss }
+    Ok(sums::rss(counts, times, freqs, centers, &[], g, e))
 }
 
 // The sum's differences: 1000 m on a, 1e-4 rad on i, raan0 and u0, each over its step. Refused: 4 and 5, as above.
@@ -172,38 +143,16 @@ pub fn compute_gradient(
     center_freq: f64,
     raan0: f64,
     u0: f64,
-) -> Gradients
-    ensures { result ≡ gradient_answer (sum_refusal epoch counts.now times.now freqs.now centers.now)
-        (gradient_of (station_at epoch center_freq rec_ecef) (record { a = a; i = i; raan0 = raan0; u0 = u0 }) counts.now times.now freqs.now centers.now) }
+) -> Result<Gradient, Refusal>
+    ensures { result ≡ compute_gradient_of epoch center_freq rec_ecef (record { a = a; i = i; raan0 = raan0; u0 = u0 }) counts.now times.now freqs.now centers.now }
 {
-    let zeros = Gradient {
-        grad_a: 0.0,
-        grad_i: 0.0,
-        grad_raan: 0.0,
-        grad_u0: 0.0,
-    };
-    let Ok(t) = Instant::try_from(epoch) else {
-        return Gradients {
-            refusal: refusal::MOMENT_RANGE,
-            gradient: zeros,
-        };
-    };
-    let refusal = set_refusal(counts, times, freqs, centers);
-    if refusal != 0 {
-        return Gradients {
-            refusal,
-            gradient: zeros,
-        };
-    }
+    let t = Instant::try_from(epoch)?;
+    accept_set(counts, times, freqs, centers)?;
     let g = Station {
         epoch: t,
         center_freq,
         rec_ecef,
     };
     let e = Elements { a, i, raan0, u0 };
-    let gradient = sums::gradient(counts, times, freqs, centers, &freqs[0..0], g, e);
-    Gradients {
-        refusal: 0,
-        gradient,
-    }
+    Ok(sums::gradient(counts, times, freqs, centers, &[], g, e))
 }

@@ -1,15 +1,20 @@
--- What the sums write: their values, or, refused, what was there.
-use Rattle.std.specs.Prelude.{List, ◌∷◌, [], Float}
-use Rattle.refusal.specs.Order.{unless_refused}
-use Rattle.approach.specs.declared.Rss.{Rss}
+-- What the closest moments and the sums answer and write: their values and 0, or the refusal's number, and what was there.
+use Rattle.std.specs.Prelude.{◌≡◌, List, ℕ, ℤ, ◌∷◌, [], length, Float, Result, Ok, Err}
+use Rattle.refusal.specs.Refusals.{number_or_zero}
+use Rattle.refusal.specs.declared.Refusal.{Refusal}
+use Rattle.moment.specs.declared.Moment.{Moment}
+use Rattle.frame.specs.declared.Vec3.{Vec3}
 use Rattle.approach.specs.declared.Gradient.{Gradient}
-use Rattle.approach.specs.declared.Gradients.{Gradients}
+use Rattle.approach.specs.Answers.{pca_refusal_of, pca_written}
 
-abbrev pub rss_value : Float → Rss → Float
-rss_value old q = unless_refused q.refusal q.rss old
+-- as get_pred_pca_times, with 0 where the moments are written
+pub record FindsPcasTo (a i raan u0 : Float) (epoch : Moment) (rec : Vec3) (counts : List ℕ) (times : List ℤ) (freqs centers : List Float) (out out' : List ℤ) (r : ℕ) : Type 0 where
+  pub answer : r ≡ number_or_zero (pca_refusal_of epoch counts times freqs centers (length out))
+  pub output : out' ≡ pca_written epoch rec (record { a = a; i = i; raan0 = raan; u0 = u0 }) counts times freqs centers out
 
 abbrev pub gradient_list : Gradient → List Float
 gradient_list g = g.grad_a ∷ g.grad_i ∷ g.grad_raan ∷ g.grad_u0 ∷ []
 
-abbrev pub gradient_values : List Float → Gradients → List Float
-gradient_values old q = unless_refused q.refusal (gradient_list q.gradient) old
+abbrev pub gradient_values : List Float → Result Gradient Refusal → List Float
+gradient_values old (Ok g) = gradient_list g
+gradient_values old (Err r) = old

@@ -1,11 +1,10 @@
 // Closest moments and sums of squares, over a pass set in flat arrays.
 ghost use Rattle.std.specs.Prelude.{◌≡◌};
 ghost use Rattle.frame.specs.Rotation.{place};
-ghost use Rattle.orbit.specs.Doppler.{station_at};
-ghost use Rattle.approach.specs.Sums.{rss_of, gradient_of};
-ghost use Rattle.approach.specs.Answers.{sum_refusal, FindsPcas, rss_answer, gradient_answer};
+ghost use Rattle.refusal.specs.Refusals.{status_of, left_by};
+ghost use Rattle.approach.specs.Answers.{compute_rss_of, compute_gradient_of};
 ghost use Rattle.exports.specs.Answers.{moment};
-ghost use Rattle.exports.specs.Sums.{rss_value, gradient_values};
+ghost use Rattle.exports.specs.Sums.{FindsPcasTo, gradient_values};
 
 use frame::Vec3;
 use moment::Moment;
@@ -27,9 +26,9 @@ pub extern "C" fn wisvalom_get_pred_pca_times(
     centers: &[f64],
     out: &mut [i64],
 ) -> u32
-    ensures { FindsPcas a i raan u0 (moment epoch epoch_nanos) (place x y z) counts.now times.now freqs.now centers.now out.old out.new result }
+    ensures { FindsPcasTo a i raan u0 (moment epoch epoch_nanos) (place x y z) counts.now times.now freqs.now centers.now out.old out.new result }
 {
-    approach::get_pred_pca_times(
+    refusal::status(approach::get_pred_pca_times(
         a,
         i,
         raan,
@@ -44,7 +43,7 @@ pub extern "C" fn wisvalom_get_pred_pca_times(
         freqs,
         centers,
         out,
-    )
+    ))
 }
 
 #[unsafe(no_mangle)]
@@ -65,10 +64,8 @@ pub extern "C" fn wisvalom_compute_rss(
     u0: f64,
     out: &mut f64,
 ) -> u32
-    ensures value { result ≡ (rss_answer (sum_refusal (moment epoch epoch_nanos) counts.now times.now freqs.now centers.now)
-        (rss_of (station_at (moment epoch epoch_nanos) center_freq (place x y z)) (record { a = a; i = i; raan0 = raan0; u0 = u0 }) counts.now times.now freqs.now centers.now)).refusal }
-    ensures out_after { out.new ≡ rss_value out.old (rss_answer (sum_refusal (moment epoch epoch_nanos) counts.now times.now freqs.now centers.now)
-        (rss_of (station_at (moment epoch epoch_nanos) center_freq (place x y z)) (record { a = a; i = i; raan0 = raan0; u0 = u0 }) counts.now times.now freqs.now centers.now)) }
+    ensures value { result ≡ status_of (compute_rss_of (moment epoch epoch_nanos) center_freq (place x y z) (record { a = a; i = i; raan0 = raan0; u0 = u0 }) counts.now times.now freqs.now centers.now) }
+    ensures out_after { out.new ≡ left_by out.old (compute_rss_of (moment epoch epoch_nanos) center_freq (place x y z) (record { a = a; i = i; raan0 = raan0; u0 = u0 }) counts.now times.now freqs.now centers.now) }
 {
     let answer = approach::compute_rss(
         counts,
@@ -86,11 +83,7 @@ pub extern "C" fn wisvalom_compute_rss(
         raan0,
         u0,
     );
-    if answer.refusal != 0 {
-        return answer.refusal;
-    }
-    *out = answer.rss;
-    0
+    refusal::report(answer, out)
 }
 
 // By a, i, raan0 and u0.
@@ -112,10 +105,8 @@ pub extern "C" fn wisvalom_compute_gradient(
     u0: f64,
     out: &mut [f64; 4],
 ) -> u32
-    ensures value { result ≡ (gradient_answer (sum_refusal (moment epoch epoch_nanos) counts.now times.now freqs.now centers.now)
-        (gradient_of (station_at (moment epoch epoch_nanos) center_freq (place x y z)) (record { a = a; i = i; raan0 = raan0; u0 = u0 }) counts.now times.now freqs.now centers.now)).refusal }
-    ensures out_after { out.new ≡ gradient_values out.old (gradient_answer (sum_refusal (moment epoch epoch_nanos) counts.now times.now freqs.now centers.now)
-        (gradient_of (station_at (moment epoch epoch_nanos) center_freq (place x y z)) (record { a = a; i = i; raan0 = raan0; u0 = u0 }) counts.now times.now freqs.now centers.now)) }
+    ensures value { result ≡ status_of (compute_gradient_of (moment epoch epoch_nanos) center_freq (place x y z) (record { a = a; i = i; raan0 = raan0; u0 = u0 }) counts.now times.now freqs.now centers.now) }
+    ensures out_after { out.new ≡ gradient_values out.old (compute_gradient_of (moment epoch epoch_nanos) center_freq (place x y z) (record { a = a; i = i; raan0 = raan0; u0 = u0 }) counts.now times.now freqs.now centers.now) }
 {
     let answer = approach::compute_gradient(
         counts,
@@ -133,10 +124,11 @@ pub extern "C" fn wisvalom_compute_gradient(
         raan0,
         u0,
     );
-    if answer.refusal != 0 {
-        return answer.refusal;
+    match answer {
+        Ok(g) => {
+            *out = [g.grad_a, g.grad_i, g.grad_raan, g.grad_u0];
+            0
+        }
+        Err(r) => r.number(),
     }
-    let g = answer.gradient;
-    *out = [g.grad_a, g.grad_i, g.grad_raan, g.grad_u0];
-    0
 }

@@ -6,15 +6,10 @@ const PASSES: usize = 20;
 
 const SAMPLES: usize = 64;
 
-// Whether the answer is this refusal, or 0 and these floats.
-fn answered(answer: &[u8], refusal: u32, values: &[f64]) -> bool {
-    if !answer_lines::refused(answer, refusal) {
-        return false;
-    }
-    if refusal != 0 {
-        return true;
-    }
-    answer_lines::elements_are(answer_lines::from(answer, 1), values)
+// Whether the answer is 0 and these floats.
+fn found(answer: &[u8], values: &[f64]) -> bool {
+    answer_lines::refused(answer, 0)
+        && answer_lines::elements_are(answer_lines::from(answer, 1), values)
 }
 
 // The fields before the set are: elements, epoch, receiver.
@@ -27,7 +22,7 @@ fn pca(
     answer: &[u8],
 ) -> bool {
     let mut out = [0i64; PASSES];
-    let refusal = approach::get_pred_pca_times(
+    let found = approach::get_pred_pca_times(
         answer_lines::float(fields, 0),
         answer_lines::float(fields, 1),
         answer_lines::float(fields, 2),
@@ -40,13 +35,13 @@ fn pca(
         centers,
         &mut out,
     );
-    if !answer_lines::refused(answer, refusal) {
-        return false;
+    match found {
+        Ok(()) => {
+            answer_lines::refused(answer, 0)
+                && answer_lines::same(answer_lines::from(answer, 1), counts.len(), &out)
+        }
+        Err(r) => answer_lines::refused(answer, r.number()),
     }
-    if refusal != 0 {
-        return true;
-    }
-    answer_lines::same(answer_lines::from(answer, 1), counts.len(), &out)
 }
 
 // The fields after the set are: receiver, elements, epoch, centre.
@@ -58,7 +53,7 @@ fn rss(
     fields: &[u8],
     answer: &[u8],
 ) -> bool {
-    let r = approach::compute_rss(
+    let sum = approach::compute_rss(
         counts,
         times,
         freqs,
@@ -71,7 +66,10 @@ fn rss(
         answer_lines::float(fields, 5),
         answer_lines::float(fields, 6),
     );
-    answered(answer, r.refusal, &[r.rss])
+    match sum {
+        Ok(rss) => found(answer, &[rss]),
+        Err(r) => answer_lines::refused(answer, r.number()),
+    }
 }
 
 fn grad(
@@ -82,7 +80,7 @@ fn grad(
     fields: &[u8],
     answer: &[u8],
 ) -> bool {
-    let r = approach::compute_gradient(
+    let gradient = approach::compute_gradient(
         counts,
         times,
         freqs,
@@ -95,12 +93,10 @@ fn grad(
         answer_lines::float(fields, 5),
         answer_lines::float(fields, 6),
     );
-    let g = r.gradient;
-    answered(
-        answer,
-        r.refusal,
-        &[g.grad_a, g.grad_i, g.grad_raan, g.grad_u0],
-    )
+    match gradient {
+        Ok(g) => found(answer, &[g.grad_a, g.grad_i, g.grad_raan, g.grad_u0]),
+        Err(r) => answer_lines::refused(answer, r.number()),
+    }
 }
 
 // The fields after the set are: receiver, a, i.
@@ -123,7 +119,10 @@ fn search(
         answer_lines::float(fields, 4),
         &mut table,
     );
-    answered(answer, r.refusal, &[r.raan0, r.u0, r.rss])
+    if r.refusal != 0 {
+        return answer_lines::refused(answer, r.refusal);
+    }
+    found(answer, &[r.raan0, r.u0, r.rss])
 }
 
 // The line asked with its set; `rest` are the fields after it.

@@ -1,42 +1,34 @@
 -- `get_pred_pca_times` meets its contract. Assumes nothing.
-use mathlib.Core.Path.{sym, ◌∙◌}
-use borrow.Author.Rules.{rules}
-use borrow.Author.Tests.{lt-ltb, le-ltb}
+use Rattle.std.proofs.Common.{rules, sym, ◌∙◌}
 use Rattle.moment.proofs.Ranges.{at_is}
-use Rattle.approach.proofs.Refusals.{accepted_set, pca_epoch_out, pca_refused, pca_room, station_is}
-use Rattle.refusal.proofs.Written.{kept}
+use Rattle.approach.proofs.Refusals.{err, ok, accepted_set, pca_epoch_out, pca_set_out, pca_short, pca_found, station_is}
 use Rattle.approach.proofs.get_pred_pca_times.Goals as goal
 
-pub returns-in_default : goal.returns-in_default
-returns-in_default c =
-    let a = c.args in
-    record { answer = pca_epoch_out a.epoch _ _ _ _ _ _ (sym c.in_default.is ∙ c.try_from.ensures); output = search rules }
+pub returns-in_err-t : goal.returns-in_err-t
+returns-in_err-t c =
+    let e = pca_epoch_out c.args.epoch _ _ _ _ _ _ (sym c.in_err-t.was ∙ c.try_from.ensures) in
+    record { answer = search rules ∙ err _ e; output = rw e }
 
-pub returns-then-refusal-ne0 : goal.returns-then-refusal-ne0
-returns-then-refusal-ne0 c =
-    let a = c.args in
-    record {
-      answer = pca_refused a.epoch _ _ _ _ _ (sym c.in-Ok.is ∙ c.try_from.ensures) _ _ c.set_refusal-refusal.ensures c.if-refusal-ne0.true;
-      output = kept _ _ _ c.if-refusal-ne0.true;
-    }
+pub returns-in_err-accept_set : goal.returns-in_err-accept_set
+returns-in_err-accept_set c =
+    let e = pca_set_out c.args.epoch _ _ _ _ _ (sym c.in_ok-t.was ∙ c.try_from.ensures) _ _ (sym c.in_err-accept_set.was ∙ c.accept_set.ensures) in
+    record { answer = search rules ∙ err _ e; output = rw e }
 
 pub returns-then-out-counts : goal.returns-then-out-counts
 returns-then-out-counts c =
-    let a = c.args in
-    record {
-      answer = pca_room a.epoch _ _ _ _ _ (sym c.in-Ok.is ∙ c.try_from.ensures) _ _ _ c.set_refusal-refusal.ensures c.if-refusal-ne0.false (rw (lt-ltb _ _ c.if-out-counts.true));
-      output = search rules;
-    }
+    let e = pca_short c.args.epoch _ _ _ _ _ (sym c.in_ok-t.was ∙ c.try_from.ensures) _ (sym c.in_ok-accept_set.was ∙ c.accept_set.ensures) _ c.if-out-counts.true in
+    record { answer = err _ e; output = rw e }
 
 pub pca_times-requires : goal.pca_times-requires
-pca_times-requires c =
-    ((at_is _ _ _ (sym c.in-Ok.is ∙ c.try_from.ensures)).accepted, accepted_set _ _ _ _ (sym c.set_refusal-refusal.ensures ∙ c.if-refusal-ne0.false), c.if-out-counts.false)
+pca_times-requires c = (
+  (at_is _ _ _ (sym c.in_ok-t.was ∙ c.try_from.ensures)).accepted,
+  accepted_set _ _ _ _ _ (sym c.in_ok-accept_set.was ∙ c.accept_set.ensures),
+  c.if-out-counts.false,
+)
 
 pub returns : goal.returns
 returns c =
     let a = c.args in
-    let g = sym c.in-Ok.is ∙ c.try_from.ensures in
-    record {
-      answer = pca_room a.epoch _ _ _ _ _ g _ _ 0 c.set_refusal-refusal.ensures c.if-refusal-ne0.false (rw (le-ltb _ _ c.if-out-counts.false));
-      output = rw (station_is a.epoch _ a.rec_ecef _ g) at c.pca_times.ensures;
-    }
+    let g = sym c.in_ok-t.was ∙ c.try_from.ensures in
+    let e = pca_found a.epoch _ _ _ _ _ g _ (sym c.in_ok-accept_set.was ∙ c.accept_set.ensures) _ c.if-out-counts.false in
+    record { answer = ok _ e; output = rw (e, ← station_is a.epoch _ a.rec_ecef _ g) c.pca_times.ensures }

@@ -1,6 +1,6 @@
--- `set_refusal` meets its contract. Assumes nothing.
+-- `accept_set` meets its contract. Assumes nothing.
 use Rattle.approach.specs.Answers.{set_refusal_of}
-use Rattle.approach.proofs.set_refusal.Goals as goal
+use Rattle.approach.proofs.accept_set.Goals as goal
 
 pub returns-then-not-all_in_range : goal.returns-then-not-all_in_range
 unfolding set_refusal_of
