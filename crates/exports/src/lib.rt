@@ -195,8 +195,11 @@ pub extern "C" fn wisvalom_propagate_ecef_at_time(
             nanos: t_rotate_nanos,
         },
     );
-    refusal::report(
-        answer.map(|s| [s.x, s.y, s.z, s.vx, s.vy, s.vz]),
-        out,
-    )
+    match answer {
+        Ok(s) => {
+            *out = [s.x, s.y, s.z, s.vx, s.vy, s.vz];
+            0
+        }
+        Err(r) => r.number(),
+    }
 }
