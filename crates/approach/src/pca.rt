@@ -2,7 +2,7 @@
 ghost use Rattle.std.specs.Prelude.{◌≡◌, ◌+◌, ◌*◌, ◌≤◌, ◌<◌, length, get_or, set, pos};
 ghost use Rattle.moment.specs.Range.{Within};
 ghost use Rattle.moment.specs.Sample.{Timed, instant_at, since_of};
-ghost use Rattle.approach.specs.Pca.{nearer_of, obs_pca_at, obs_pca_time, square_of, closer_of, searched_of, closest_of, pred_pca_time, pca_times_of};
+ghost use Rattle.approach.specs.Pca.{obs_pca_at, obs_pca_time, square_of, closer_of, searched_of, closest_of, pred_pca_time, pca_times_of};
 ghost use Rattle.approach.specs.Turns.{reach, Seen, PassSamples, SoundSet, Around, Beside, Window, Held, Windowed, window};
 
 use crate::{Closest, Nearest, Stage};
@@ -11,31 +11,22 @@ use moment::Instant;
 use orbit::Elements;
 use orbit::doppler::{Sight, Station};
 
-fn nearer(freqs: &[f64], center: f64, k: usize, s: Nearest) -> Nearest
-    requires { (k < length freqs.now) × (s.at < length freqs.now) }
-    ensures { (result ≡ nearer_of freqs.now center k s) × (result.at < length freqs.now) }
-{
-    let off = float::abs(freqs[k] - center);
-    if off < s.offset {
-        Nearest { offset: off, at: k }
-    } else {
-        s
-    }
-}
-
 // Which sample is closest to the centre frequency.
 fn obs_pca_at(freqs: &[f64], center: f64) -> usize
     requires { 0 < length freqs.now }
     ensures { (result ≡ obs_pca_at freqs.now center) × (result < length freqs.now) }
 {
-    let mut s = Nearest {
+    let mut nearest = Nearest {
         offset: float::MAX,
         at: 0,
     };
-    for k in 0..freqs.len() {
-        s = nearer(freqs, center, k, s);
+    for (at, &freq) in freqs.iter().enumerate() {
+        let offset = float::abs(freq - center);
+        if offset < nearest.offset {
+            nearest = Nearest { offset, at };
+        }
     }
-    s.at
+    nearest.at
 }
 
 pub fn moment_at(times: &[i64], k: usize) -> Instant
@@ -183,8 +174,8 @@ pub fn pca_times(
     let v = orbit::doppler::sight_of(g, e);
     let first = centers[0];
     let mut k = 0usize;
-    for p in 0..counts.len() {
-        let end = k + counts[p] as usize;
+    for (p, &count) in counts.iter().enumerate() {
+        let end = k + count as usize;
         put_pca(v, first, &times[k..end], &freqs[k..end], out, p);
         k = end;
     }

@@ -107,8 +107,8 @@ pub fn rss(
     let first = centers[0];
     let from = crate::turns::WINDOW * counts.len();
     let mut k = 0usize;
-    for p in 0..counts.len() {
-        let end = k + counts[p] as usize;
+    for (p, &count) in counts.iter().enumerate() {
+        let end = k + count as usize;
         sum = pass_sum(
             v,
             first,

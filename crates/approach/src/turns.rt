@@ -56,8 +56,8 @@ fn fill_samples(table: &mut [f64], at: usize, times: &[i64])
     requires { Timed times.now × (2 * (at + length times.now) ≤ length table.old) }
     ensures { Entered (moments times.now) at (length times.now) table.old table.new }
 {
-    for k in 0..times.len() {
-        put_turn(table, at + k, crate::pca::moment_at(times, k));
+    for (k, &time) in times.iter().enumerate() {
+        put_turn(table, at + k, moment::sample::of_nanos(time));
     }
 }
 
@@ -82,8 +82,8 @@ pub fn fill(counts: &[u32], times: &[i64], freqs: &[f64], centers: &[f64], table
     }
     let first = centers[0];
     let mut k = 0usize;
-    for p in 0..counts.len() {
-        let end = k + counts[p] as usize;
+    for (p, &count) in counts.iter().enumerate() {
+        let end = k + count as usize;
         fill_pass(table, WINDOW * p, first, &times[k..end], &freqs[k..end]);
         k = end;
     }

@@ -23,15 +23,6 @@ unfolding pca_times_of
 loop-p-init c =
     (first_pass _, refl, begins refl, seen _ _ _ c.sight_of-v.ensures c.requires.0)
 
-pub offset_bounds-counts-p : goal.offset_bounds-counts-p
-offset_bounds-counts-p c = search loops
-
-pub bounds-counts-p : goal.bounds-counts-p
-bounds-counts-p c = search loops
-
-pub overflow_cast-end : goal.overflow_cast-end
-overflow_cast-end c = omega (arith, c.shared_slice_known-in-loop-p-1.given c.loop-p.p)
-
 pub overflow_add-end : goal.overflow_add-end
 overflow_add-end c = omega (arith, pass_fits c.loop-p-test.true c.loop-p.invariant.0)
 
@@ -62,12 +53,6 @@ slice_bounds-put_pca-end-in-loop-p c = omega (arith, pass_fits c.loop-p-test.tru
 pub put_pca-requires : goal.put_pca-requires
 put_pca-requires c =
     (c.loop-p.invariant.3, part_samples c.requires.1 c.loop-p-test.true c.loop-p.invariant.0, omega arith)
-
-pub overflow_step-p : goal.overflow_step-p
-overflow_step-p c = search loops
-
-pub loop-p-smaller : goal.loop-p-smaller
-loop-p-smaller c = search loops
 
 pub loop-p-preserved : goal.loop-p-preserved
 loop-p-preserved c = (

@@ -1,6 +1,5 @@
 -- `pca_times` meets its contract. Assumes nothing.
 use mathlib.Core.Path.{◌≡◌}
-use Prim.Native.Nat.{◌-◌}
 use lib.ListN.{length}
 use Rattle.loops.proofs.Laws.{Left}
 use Rattle.pass_set.specs.PassSet.{AtPass}
@@ -13,6 +12,3 @@ invariant-loop-p l =
     AtPass l.counts l.p l.k × (length l.out ≡ length l.initial.out)
     × Left l.p (length l.counts) (put_pca_of l.v.station l.v.e l.first l.counts l.times l.freqs) l.out (pca_times_of l.v.station l.v.e l.counts l.times l.freqs l.centers l.initial.out)
     × Seen l.v
-
-abbrev pub decreases-loop-p : goal.decreases-loop-p
-decreases-loop-p l = length l.counts - l.p

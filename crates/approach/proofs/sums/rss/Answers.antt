@@ -26,15 +26,6 @@ unfolding rss_of
 loop-p-init c =
     (first_pass _, begins refl, seen _ _ _ c.sight_of-v.ensures c.requires.0)
 
-pub offset_bounds-counts-p : goal.offset_bounds-counts-p
-offset_bounds-counts-p c = search loops
-
-pub bounds-counts-p : goal.bounds-counts-p
-bounds-counts-p c = search loops
-
-pub overflow_cast-end : goal.overflow_cast-end
-overflow_cast-end c = omega (arith, c.shared_slice_known-in-loop-p-1.given c.loop-p.p)
-
 pub overflow_add-end : goal.overflow_add-end
 overflow_add-end c = omega (arith, pass_fits c.loop-p-test.true c.loop-p.invariant.0)
 
@@ -76,12 +67,6 @@ pass_sum-sum-requires c =
       part_windowed _ _ i.0 (c.requires.2.windows c.loop-p.p c.loop-p-test.true),
       part_sampled _ i.0 (pass_sampled _ _ _ _ _ _ c.loop-p.p _ c.requires.1 c.loop-p-test.true i.0 c.requires.2),
     )
-
-pub overflow_step-p : goal.overflow_step-p
-overflow_step-p c = search loops
-
-pub loop-p-smaller : goal.loop-p-smaller
-loop-p-smaller c = search loops
 
 pub loop-p-preserved : goal.loop-p-preserved
 loop-p-preserved c =

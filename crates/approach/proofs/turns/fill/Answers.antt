@@ -17,15 +17,6 @@ bounds-centers-0 c = search loops
 pub loop-p-init : goal.loop-p-init
 loop-p-init c = (first_pass _, refl, windows_none _ _ _ _ _)
 
-pub offset_bounds-counts-p : goal.offset_bounds-counts-p
-offset_bounds-counts-p c = search loops
-
-pub bounds-counts-p : goal.bounds-counts-p
-bounds-counts-p c = search loops
-
-pub overflow_cast-end : goal.overflow_cast-end
-overflow_cast-end c = omega (arith, c.shared_slice_known-in-loop-p-1.given c.loop-p.p)
-
 pub overflow_add-end : goal.overflow_add-end
 overflow_add-end c = omega (arith, pass_fits c.loop-p-test.true c.loop-p.invariant.0)
 
@@ -63,12 +54,6 @@ fill_pass-requires c =
     let few = c.requires.0.sizes.few in
     let room = c.requires.1 in
     (part_samples c.requires.0 l i.0, omega (arith, l, few), omega (arith, l, i.1, room))
-
-pub overflow_step-p : goal.overflow_step-p
-overflow_step-p c = search loops
-
-pub loop-p-smaller : goal.loop-p-smaller
-loop-p-smaller c = search loops
 
 pub loop-p-preserved : goal.loop-p-preserved
 loop-p-preserved c =

@@ -1,6 +1,5 @@
 -- `fill` meets its contract. Assumes nothing.
 use mathlib.Core.Path.{◌≡◌}
-use Prim.Native.Nat.{◌-◌}
 use lib.ListN.{length}
 use Rattle.pass_set.specs.PassSet.{AtPass}
 use Rattle.approach.proofs.Fill.{Windows}
@@ -8,6 +7,3 @@ use Rattle.approach.proofs.turns.fill.Given as goal
 
 abbrev pub invariant-loop-p : goal.invariant-loop-p
 invariant-loop-p l = AtPass l.counts l.p l.k × (length l.table ≡ length l.initial.table) × Windows l.table l.first l.counts l.times l.freqs l.p
-
-abbrev pub decreases-loop-p : goal.decreases-loop-p
-decreases-loop-p l = length l.counts - l.p
