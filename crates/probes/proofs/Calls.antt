@@ -27,8 +27,10 @@ use Rattle.residuals.specs.Samples.{Passes, counts_at, passes_of, first_epoch, D
 use Rattle.residuals.specs.Residuals.{place_of, rows_of, penalised_sum, each, sum_of}
 use Rattle.residuals.specs.Answers as residuals
 use Rattle.residuals.specs.Residuals as residuals-of
-use Rattle.residuals.specs.declared.Sum.{Sum}
-use Rattle.residuals.specs.declared.Sum.TheVariants.{Value, Refused}
+use Rattle.std.proofs.Common.{Result, Ok, Err}
+use Rattle.refusal.specs.Refusals.{number_of}
+use Rattle.refusal.specs.declared.Refusal.{Refusal}
+use Rattle.refusal.specs.declared.Refusal.TheVariants.{FarMoment}
 use Rattle.residuals.proofs.Samples.{counts_length, counts_dated}
 use Rattle.normal.specs.Step.{Outcome}
 use Rattle.refine.specs.Advance.{advance_of}
@@ -153,7 +155,7 @@ put_fits n m l h k = rw (length-take-le n l h) k
 -- ---- the residuals' answers
 
 -- a sum was given, so that the residuals are there, and they are what was copied
-value_given : (w : Option (List Float)) (xs out out' : List Float) (v : Float) → residuals.Summed xs w (Value v) → out' ≡ xs ++ drop (length xs) out
+value_given : (w : Option (List Float)) (xs out out' : List Float) (v : Float) → residuals.Summed xs w (Ok v) → out' ≡ xs ++ drop (length xs) out
     → Sums 0 w out out' (record { refusal = 0; sum = v })
 value_given none xs out out' v s e = let z : ◌≡◌ {A = ℕ} 0 1 = cc s.answer in absurd (omega (arith, z))
 value_given (some r) xs out out' v s e =
@@ -161,16 +163,18 @@ value_given (some r) xs out out' v s e =
     let sum : v ≡ sum_of r = cc s.answer in
     record { answer = rw sum refl; written = rw same at e }
 
-pub sums_given : (w : Option (List Float)) (xs out out' : List Float) (q : Sum) (v : Float) → residuals.Summed xs w q → q ≡ Value v → out' ≡ xs ++ drop (length xs) out
+pub sums_given : (w : Option (List Float)) (xs out out' : List Float) (q : Result Float Refusal) (v : Float) → residuals.Summed xs w q → q ≡ Ok v → out' ≡ xs ++ drop (length xs) out
     → Sums 0 w out out' (record { refusal = 0; sum = v })
 sums_given w xs out out' q v s h e = value_given w xs out out' v (subst (residuals.Summed xs w) h s) e
 
-none_given_far : (w : Option (List Float)) (xs out : List Float) (n : ℕ) → residuals.Summed xs w (Refused n) → Sums 0 w out out (record { refusal = n; sum = bits 0 })
-none_given_far none xs out n s = let far : n ≡ 23 = cc s.answer in record { answer = rw far refl; written = refl }
-none_given_far (some r) xs out n s = let z : ◌≡◌ {A = ℕ} 0 1 = cc s.answer in absurd (omega (arith, z))
+none_given_far : (w : Option (List Float)) (xs out : List Float) (e : Refusal) (n : ℕ) → residuals.Summed xs w (Err e) → n ≡ number_of e
+    → Sums 0 w out out (record { refusal = n; sum = bits 0 })
+none_given_far none xs out e n s h = let far : e ≡ FarMoment = cc s.answer in record { answer = rw (h, far) refl; written = refl }
+none_given_far (some r) xs out e n s h = cc s.answer
 
-pub sums_far : (w : Option (List Float)) (xs out : List Float) (q : Sum) (n : ℕ) → residuals.Summed xs w q → q ≡ Refused n → Sums 0 w out out (record { refusal = n; sum = bits 0 })
-sums_far w xs out q n s h = none_given_far w xs out n (subst (residuals.Summed xs w) h s)
+pub sums_far : (w : Option (List Float)) (xs out : List Float) (q : Result Float Refusal) (e : Refusal) (n : ℕ) → residuals.Summed xs w q → q ≡ Err e → n ≡ number_of e
+    → Sums 0 w out out (record { refusal = n; sum = bits 0 })
+sums_far w xs out q e n s h = none_given_far w xs out e n (subst (residuals.Summed xs w) h s)
 
 pub sums_refused : (n : ℕ) (w : Option (List Float)) (out : List Float) → (n ≡ 0 → ⊥) → Sums n w out out (record { refusal = n; sum = bits 0 })
 sums_refused zero w out h = absurd (h refl)
@@ -179,7 +183,7 @@ sums_refused (suc n) w out h = record { answer = refl; written = refl }
 -- ---- a trial
 
 -- the residuals of a set that was kept are those that its trial left
-held_from : (w : Option (List Float)) (s : Search) (xs : List Float) (q : Sum) (k : Bool) (t : State) → residuals.Summed xs w q → k ≡ below (each sum_of w) s.best
+held_from : (w : Option (List Float)) (s : Search) (xs : List Float) (q : Result Float Refusal) (k : Bool) (t : State) → residuals.Summed xs w q → k ≡ below (each sum_of w) s.best
     → state_after t ≡ compared (each sum_of w) s → k ≡ true → (some xs ≡ w) × (t.params ≡ s.next)
 held_from none s xs q k t u b a h = let z : true ≡ false = sym h ∙ b in absurd (true≢false z)
 held_from (some r) s xs q k t u b a h = (u.written, kept_set s (sum_of r) t a (sym b ∙ h))

@@ -34,7 +34,7 @@ use frame::Vec3;
 use moment::Instant;
 use orbit::doppler::Station;
 use pass_set::MAX_SAMPLES;
-use residuals::{PARAMS, Point, ROWS, Sum};
+use residuals::{PARAMS, Point, ROWS};
 use search::Fixed;
 use trials::{Refinement, State};
 
@@ -200,13 +200,15 @@ fn sum_of(
 {
     let rows = residuals::rows_of(set.second, times.len(), counts.len());
     let mut r = [0.0; ROWS];
-    let answer = residuals::penalised_sum(set, counts, times, freqs, turns, &mut r);
-    match answer {
-        Sum::Value(sum) => {
+    match residuals::penalised_sum(set, counts, times, freqs, turns, &mut r) {
+        Ok(sum) => {
             trials::put(&r[..rows], out);
             Residuals { refusal: 0, sum }
         }
-        Sum::Refused(refusal) => Residuals { refusal, sum: 0.0 },
+        Err(far) => Residuals {
+            refusal: far.number(),
+            sum: 0.0,
+        },
     }
 }
 

@@ -9,20 +9,21 @@ use lib.ListN.{length, take, drop}
 use lib.Seq.{take_at, drop_at, length-take-le}
 use lib.Ieee.{Float}
 use Rattle.float.specs.Ops.{at}
+use Rattle.std.specs.Bool.{⊤}
+use Rattle.std.proofs.Common.{Result, Ok, Err}
+use Rattle.refusal.specs.Refusals.{number_of}
+use Rattle.refusal.specs.declared.Refusal.{Refusal}
 use Rattle.loops.specs.Loop.{try}
 use Rattle.orbit.specs.declared.doppler.Station.{Station}
 use Rattle.residuals.specs.Samples.{Passes, Samples}
 use Rattle.residuals.specs.Residuals.{place_of, rows_of, residuals}
 use Rattle.residuals.specs.Answers.{Filled, Summed}
-use Rattle.residuals.specs.declared.Sum.{Sum}
-use Rattle.residuals.specs.declared.Sum.TheVariants.{Value}
-use Rattle.residuals.proofs.Laws.{summed_known}
+use Rattle.residuals.proofs.Laws.{refused_far, summed_known}
 use Rattle.normal.specs.Normal.{table_entry}
 use Rattle.normal.specs.Step.{Outcome, refused, damped_step}
 use Rattle.normal.proofs.Same.{step_same}
 use Rattle.refine.specs.Jacobian.{eps_of, residual_at, entry_of, column_of}
 use Rattle.refine.specs.Advance.{advance_of, cells_of, Ready}
-use Rattle.refine.proofs.Columns.{refused_far}
 use Rattle.refine.proofs.Table.{table_far, table_done}
 
 -- ---- sizes
@@ -52,9 +53,9 @@ places_four true p = omega arith
 places_four false p = omega arith
 
 -- from a trial that was not refused to the step after it: k residuals are lent of those that the trial left in out
-pub ready_after : (second : Bool) (g : Station) (d : Passes) (turns x out : List Float) (k room : ℕ) (sum : Sum) (v : Float) → Samples g d turns
+pub ready_after : (second : Bool) (g : Station) (d : Passes) (turns x out : List Float) (k room : ℕ) (sum : Result Float Refusal) (v : Float) → Samples g d turns
     → k ≡ rows_of second (length d.times) (length d.counts) → k ≤ length out
-    → Summed (take (rows_of second (length d.times) (length d.counts)) out) (residuals second g d x) sum → sum ≡ Value v
+    → Summed (take (rows_of second (length d.times) (length d.counts)) out) (residuals second g d x) sum → sum ≡ Ok v
     → rows_of second (length d.times) (length d.counts) * place_of second (length d.counts) ≤ room → Ready second g d turns x (take k out) room
 ready_after second g d turns x out k room sum v s e h w q l =
     record {
@@ -89,20 +90,19 @@ module _ (second : Bool) (g : Station) (d : Passes) (turns x r : List Float) (ro
   pub behind : (u s s' : List Float) → length u ≡ length r * n → s' ≡ u ++ drop (length r * n) s → drop (cells_of second d) s' ≡ drop (cells_of second d) s
   behind u s s' l e = rw (← en, ← ready.rows, e) (drop_at u (drop (length r * n) s) (length r * n) l)
 
-  module _ (lambda : Float) (k : ℕ) (t u : List Float) (l : length t ≡ length r * n)
-      (made : Filled k u (try 0 n (column_of (eps_of second) (residuals second g d) x r (length r) n) t)) where
-    pub advance_far : (k ≡ 0 → ⊥) → refused k ≡ advance_of second g d lambda x
+  module _ (lambda : Float) (t u : List Float) (l : length t ≡ length r * n) where
+    pub advance_far : (e : Refusal) (k : ℕ) → Filled (Err e) u (try 0 n (column_of (eps_of second) (residuals second g d) x r (length r) n) t) → k ≡ number_of e → refused k ≡ advance_of second g d lambda x
     unfolding advance_of
-    advance_far h =
-        rw (← en, table_far (eps_of second) (residuals second g d) x r (length r) n ready.known k t u l h made)
-        (ap refused (refused_far k u _ made h))
+    advance_far e k made q =
+        rw (← en, table_far (eps_of second) (residuals second g d) x r (length r) n ready.known e t u l made)
+        (ap refused (q ∙ ap number_of (refused_far made)))
 
     -- s is the scratch with the table at its front
-    pub advance_done : (s rest : List Float) (w : Outcome) → k ≡ 0 → s ≡ u ++ rest
+    pub advance_done : (y : ⊤) (s rest : List Float) (w : Outcome) → Filled (Ok y) u (try 0 n (column_of (eps_of second) (residuals second g d) x r (length r) n) t) → s ≡ u ++ rest
         → w ≡ damped_step second (length r) n (table_entry n (take (length r * n) s)) (at r) lambda x → w ≡ advance_of second g d lambda x
     unfolding advance_of
-    advance_done s rest w e es ew =
-        let tab = table_done (eps_of second) (residuals second g d) x r (length r) n ready.known k t u l e made in
+    advance_done y s rest w made es ew =
+        let tab = table_done (eps_of second) (residuals second g d) x r (length r) n ready.known y t u l made in
         let front : take (length r * n) s ≡ u = rw es (take_at u rest (length r * n) tab.long) in
         let stepped : damped_step second (length r) n (table_entry n u) (at r) lambda x ≡ damped_step second (length r) n (entry_of (eps_of second) (residuals second g d) x) (residual_at (residuals second g d) x) lambda x
         = step_same (length r) n (table_entry n u) (entry_of (eps_of second) (residuals second g d) x) (at r) (residual_at (residuals second g d) x) tab.holds (λ row h. residual_is row) second lambda x in

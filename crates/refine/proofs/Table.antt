@@ -11,12 +11,14 @@ use lib.ListN.{length, length-set}
 use lib.Seq.{get_or-set_same, get_or-set_other}
 use lib.Ieee.{Float, nan}
 use Rattle.float.specs.Ops.{at}
+use Rattle.std.specs.Bool.{⊤}
+use Rattle.std.proofs.Common.{Ok, Err}
+use Rattle.refusal.specs.declared.Refusal.{Refusal}
 use Rattle.loops.specs.Loop.{for, next, tried, try}
 use Rattle.loops.proofs.Laws.{for_ind}
 use Rattle.residuals.specs.Answers.{Filled}
 use Rattle.refine.specs.Jacobian.{perturbed_of, quotient, is_far_set, entry_of, any_far, put_entry, put_column, column_of}
 use Rattle.normal.proofs.Places.{place_below, apart}
-use Rattle.refine.proofs.Columns.{refused_none}
 
 -- ---- one column
 
@@ -99,8 +101,8 @@ module _ (eps : ℕ → Float) (res : List Float → Option (List Float)) (x r :
   unfolding try
   whole t l = rw sub-zero (through n 0 t (omega arith) (record { long = l; done = λ row j h hj k. absurd (not-suc-le-zero k) }))
 
-  pub table_far : (k : ℕ) (t u : List Float) → length t ≡ m * n → (k ≡ 0 → ⊥) → Filled k u (try 0 n (column_of eps res x r m n) t) → any_far eps res x n 0 ≡ true
-  table_far k t u l h p = go (try 0 n (column_of eps res x r m n) t) (any_far eps res x n 0) (refused_none k u _ p h) (whole t l)
+  pub table_far : (e : Refusal) (t u : List Float) → length t ≡ m * n → Filled (Err e) u (try 0 n (column_of eps res x r m n) t) → any_far eps res x n 0 ≡ true
+  table_far e t u l p = go (try 0 n (column_of eps res x r m n) t) (any_far eps res x n 0) p.written (whole t l)
     where
       go : (o : Option (List Float)) (b : Bool) → none ≡ o → Result o b → b ≡ true
       go none b q refused = refl
@@ -111,8 +113,8 @@ module _ (eps : ℕ → Float) (res : List Float → Option (List Float)) (x r :
     pub long : length u ≡ m * n
     pub holds : (row j : ℕ) → row < m → j < n → at u (row * n + j) ≡ entry_of eps res x row j
 
-  pub table_done : (k : ℕ) (t u : List Float) → length t ≡ m * n → k ≡ 0 → Filled k u (try 0 n (column_of eps res x r m n) t) → Tabled u
-  table_done k t u l e p = go (try 0 n (column_of eps res x r m n) t) (any_far eps res x n 0) refl (rw e at p.written) (whole t l)
+  pub table_done : (y : ⊤) (t u : List Float) → length t ≡ m * n → Filled (Ok y) u (try 0 n (column_of eps res x r m n) t) → Tabled u
+  table_done y t u l p = go (try 0 n (column_of eps res x r m n) t) (any_far eps res x n 0) refl p.written (whole t l)
     where
       go : (o : Option (List Float)) (b : Bool) → any_far eps res x n 0 ≡ b → some u ≡ o → Result o b → Tabled u
       go none b a q refused = absurd (omega (arith, never q))

@@ -13,18 +13,18 @@ ghost use Rattle.refine.specs.Jacobian.{bias_eps, eps_of, perturbed_of, put_entr
 ghost use Rattle.refine.specs.Advance.{advance_of, cells_of, Ready, Advances};
 
 use normal::{Step, Stepped};
+use refusal::Refusal;
 use residuals::{PARAMS, Point, ROWS};
 
 fn bias_eps(j: usize) -> f64
     ensures { result ≡ bias_eps j }
 {
-    if j == 0 {
-        return 1e-3;
+    match j {
+        0 => 1e-3,
+        1 => 1e-2,
+        2 => 1e-4,
+        _ => 1e-6,
     }
-    if j == 1 {
-        return 1e-2;
-    }
-    if j == 2 { 1e-4 } else { 1e-6 }
 }
 
 fn param_eps(second: bool, k: usize) -> f64
@@ -80,7 +80,7 @@ fn jacobian_column(
     n: usize,
     k: usize,
     table: &mut [f64],
-) -> u32
+) -> Result<(), Refusal>
     requires { Samples p.station (passes_of counts.now times.now freqs.now) turns.now × Grid (length r.now) n table.old
         × (length r.now ≡ rows_of p.second (length times.now) (length counts.now)) × (k < n) }
     ensures { Filled result table.new (column_of (eps_of p.second) (residuals p.second p.station (passes_of counts.now times.now freqs.now))
@@ -97,13 +97,10 @@ fn jacobian_column(
         params,
     };
     let mut column = [0.0; ROWS];
-    let refusal = residuals::residuals_into(moved, counts, times, freqs, turns, &mut column);
-    if refusal != 0 {
-        return refusal;
-    }
+    residuals::residuals_into(moved, counts, times, freqs, turns, &mut column)?;
     let m = r.len();
     put_column(r, &column[..m], n, eps, k, table);
-    0
+    Ok(())
 }
 
 // The table, column by column, or the first refusal of a moved set's residuals.
@@ -116,19 +113,16 @@ fn jacobian(
     r: &[f64],
     n: usize,
     table: &mut [f64],
-) -> u32
+) -> Result<(), Refusal>
     requires { Samples p.station (passes_of counts.now times.now freqs.now) turns.now × Grid (length r.now) n table.old
         × (length r.now ≡ rows_of p.second (length times.now) (length counts.now)) }
     ensures { Filled result table.new (try 0 n (column_of (eps_of p.second) (residuals p.second p.station (passes_of counts.now times.now freqs.now))
         p.params r.now (length r.now) n) table.old) }
 {
     for k in 0..n {
-        let refusal = jacobian_column(p, counts, times, freqs, turns, r, n, k, table);
-        if refusal != 0 {
-            return refusal;
-        }
+        jacobian_column(p, counts, times, freqs, turns, r, n, k, table)?;
     }
-    0
+    Ok(())
 }
 
 // Table and step from the set p, its residuals r and the damping lambda. The table lies in the first places of scratch; what
@@ -151,10 +145,9 @@ pub fn advance(
     let params = p.params;
     let n = residuals::place_of(second, counts.len());
     let cells = r.len() * n;
-    let refusal = jacobian(p, counts, times, freqs, turns, r, n, &mut scratch[..cells]);
-    if refusal != 0 {
+    if let Err(far) = jacobian(p, counts, times, freqs, turns, r, n, &mut scratch[..cells]) {
         return Stepped {
-            step: Step::Refused(refusal),
+            step: Step::Refused(far.number()),
             params,
         };
     }

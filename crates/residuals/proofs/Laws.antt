@@ -3,32 +3,30 @@ use mathlib.Core.Path.{◌≡◌, refl, sym, ap, ◌∙◌}
 use mathlib.Core.Bool.{Bool, true, false}
 use mathlib.Core.List.{List, [], ◌∷◌, ◌++◌, append_assoc, append-nil}
 use mathlib.Core.Option.{Option, none, some}
-use Prim.Native.Nat.{ℕ, zero, suc, ◌+◌, ◌-◌, ◌*◌, ◌<◌, ◌≤◌}
+use Prim.Native.Nat.{ℕ, suc, ◌+◌, ◌-◌, ◌*◌, ◌<◌, ◌≤◌}
 use native.Mathlib.Nat.{add-sub_cancel_left, le_antisymm}
 use native.Mathlib.Numerals.{add-one}
 use native.Mathlib.Omega.{arith}
 use lib.ListN.{length, get_or, take, drop, set, drop_of_length-le}
-use lib.Seq.{drop-cons, take-suc-set, length-take-le, get_or-take}
+use lib.Seq.{drop-cons, take-suc-set}
 use lib.Ieee.{Float, nan}
 use Rattle.float.specs.Ops.{◌⊕◌, ◌⊖◌, ◌⊗◌, bits, at}
 use Rattle.pass_set.specs.PassSet.{total}
 use Rattle.float.specs.declared.trig.SinCos.{SinCos}
 use Rattle.moment.specs.Time.{over_of, tau_of}
-use Rattle.refusal.specs.Numbers as refusal
 use Rattle.orbit.specs.Orbit.{ecef_at}
 use Rattle.orbit.specs.Doppler.{adjusted_of, corrected_of, epoch_count, predicted_of}
 use Rattle.orbit.specs.declared.Elements.{Elements}
 use Rattle.orbit.specs.declared.doppler.Station.{Station}
+use Rattle.std.specs.Bool.{⊤}
 use Rattle.std.proofs.Common.{Result, Ok, Err}
-use Rattle.refusal.specs.Refusals.{number_of, answer, first_of, ◌when◌}
+use Rattle.refusal.specs.Refusals.{answer, first_of, ◌when◌}
 use Rattle.refusal.specs.declared.Refusal.{Refusal}
 use Rattle.refusal.specs.declared.Refusal.TheVariants.{FarMoment}
 use Rattle.residuals.specs.Samples.{Passes}
 use Rattle.residuals.specs.Residuals.{◌then◌, elements_of, dt_of, pass_bias, shift_of, prediction_of, residual, samples, passes, dt_weight_bits, df1_weight_bits, df2_weight_bits, dt_penalties, drift_penalties, penalties, rows_of, residuals, sum_squares, sum_of}
-use Rattle.residuals.specs.Answers.{filled, filled_refusal, Filled, Summed}
+use Rattle.residuals.specs.Answers.{filled_answer, Filled, Summed}
 use Rattle.residuals.specs.declared.Bias.{Bias}
-use Rattle.residuals.specs.declared.Sum.{Sum}
-use Rattle.residuals.specs.declared.Sum.TheVariants.{Value, Refused as NoSum}
 
 -- ---- lists one after the other
 
@@ -90,7 +88,7 @@ module _ (one : ℕ → ℕ → ℕ → Option (List Float)) where
       nothing : (e k : ℕ) → e ≤ k → e - k ≡ 0
       nothing e k h = omega arith
 
--- A prediction is refused by no other number than 23.
+-- A prediction is refused by no other refusal than 23.
 far_alone : (r : Refusal) (o q : Bool) (v : Float) → answer (first_of ((FarMoment when o) ∷ (FarMoment when q) ∷ [])) v ≡ Err r → r ≡ FarMoment
 far_alone r true q v e = cc
 far_alone r false true v e = cc
@@ -103,9 +101,9 @@ predicted_far g e t turn dt near bias r h =
     let late = corrected_of early (ecef_at e.a e.i e.raan0 e.u0 (tau_of early (epoch_count g)) turn) in
     far_alone r (over_of early) (over_of late) _ h
 
-pub only_far : (g : Station) (times : List ℕ) (e : Elements) (dt : Float) (b : Bias) (f k : ℕ) {y : Result Float Refusal} → y ≡ prediction_of g times e dt b f k → (r : Refusal) (n : ℕ) → y ≡ Err r → n ≡ number_of r → n ≡ refusal.far_moment
+pub only_far : (g : Station) (times : List ℕ) (e : Elements) (dt : Float) (b : Bias) (f k : ℕ) {y : Result Float Refusal} → y ≡ prediction_of g times e dt b f k → (r : Refusal) → y ≡ Err r → r ≡ FarMoment
 unfolding prediction_of
-only_far g times e dt b f k ey r n h q = q ∙ ap number_of (predicted_far g e _ _ dt _ _ r (sym ey ∙ h))
+only_far g times e dt b f k ey r h = predicted_far g e _ _ dt _ _ r (sym ey ∙ h)
 
 -- The residual of a sample from the prediction y.
 module _ (second : Bool) (g : Station) (d : Passes) (x : List Float) (p f k : ℕ) (e : Elements) (dt : Float) (b : Bias) (y : Result Float Refusal)
@@ -146,12 +144,12 @@ module _ (one : ℕ → ℕ → ℕ → Option (List Float)) (w : Option (List F
   too_far l p f k e more h is q =
       sym (ap (λ (s : Option (List Float)). some l then (s then more)) (samples_next one p f k e h ∙ ap (◌then samples one p f (k + 1) (e - (k + 1))) is)) ∙ q
 
-  pub past_pass : (l : List Float) (p f k e : ℕ) (more : ℕ → Option (List Float)) → k ≤ e → e ≤ k
-      → (some l then (samples one p f k (e - k) then more e)) ≡ w → (some l then more k) ≡ w
-  past_pass l p f k e more u h q =
-      ap (λ (j : ℕ). some l then more j) (le_antisymm u h)
-      ∙ ap (some l then◌) (sym (then_nil (more e)))
-      ∙ ap (λ (s : Option (List Float)). some l then (s then more e)) (sym (samples_end one p f k e h))
+  pub past_pass : (out : List Float) (p f k e : ℕ) (more : Option (List Float)) → k ≤ e → e ≤ k
+      → (some (take k out) then (samples one p f k (e - k) then more)) ≡ w → (some (take e out) then more) ≡ w
+  past_pass out p f k e more u h q =
+      ap (λ (j : ℕ). some (take j out) then more) (sym (le_antisymm u h))
+      ∙ ap (some (take k out) then◌) (sym (then_nil more))
+      ∙ ap (λ (s : Option (List Float)). some (take k out) then (s then more)) (sym (samples_end one p f k e h))
       ∙ q
 
   pub past_passes : (l : List Float) (p k : ℕ) (ns : List ℕ) → length ns ≤ p
@@ -191,76 +189,73 @@ module _ (x : List Float) (p n : ℕ) where
   unfolding drift_penalties
   drift_end h = ap (drift_penalties x p) (none_left n p h)
 
-module _ (out : List Float) (n : ℕ) (fits : n ≤ length out) (sum : Float) (k : ℕ) where
-  pub squares_next : k < n → sum_squares sum (drop k (take n out)) ≡ sum_squares (sum ⊕ at out k ⊗ at out k) (drop (k + 1) (take n out))
+module _ (r : List Float) (sum : Float) (k : ℕ) where
+  pub squares_next : k < length r → sum_squares sum (drop k r) ≡ sum_squares (sum ⊕ at r k ⊗ at r k) (drop (k + 1) r)
   unfolding sum_squares
   squares_next h =
-      let l : k < length (take n out) = rw (length-take-le n out fits) h in
-      ap (sum_squares sum) (drop-cons (take n out) k nan l)
-      ∙ ap (λ (v : Float). sum_squares (sum ⊕ v ⊗ v) (drop (suc k) (take n out))) (get_or-take n out k nan h)
-      ∙ ap (λ (j : ℕ). sum_squares (sum ⊕ at out k ⊗ at out k) (drop j (take n out))) (sym (add-one k))
+      ap (sum_squares sum) (drop-cons r k nan h)
+      ∙ ap (λ (j : ℕ). sum_squares (sum ⊕ at r k ⊗ at r k) (drop j r)) (sym (add-one k))
 
-  pub squares_end : n ≤ k → sum_squares sum (drop k (take n out)) ≡ sum
+  pub squares_end : length r ≤ k → sum_squares sum (drop k r) ≡ sum
   unfolding sum_squares
-  squares_end h = let l : length (take n out) ≤ k = rw (length-take-le n out fits) h in ap (sum_squares sum) (drop_of_length-le (take n out) {i = k} l)
+  squares_end h = ap (sum_squares sum) (drop_of_length-le r {i = k} h)
 
 -- ---- the whole
 
--- nothing is given, and the number is 23
-pub far_filled : {w : Option (List Float)} {n : ℕ} {xs : List Float} → none ≡ w → n ≡ refusal.far_moment → Filled n xs w
-far_filled {w} {n} {xs} z e = record { written = ap (λ (k : ℕ). filled k xs) e ∙ z; number = e ∙ ap filled_refusal z }
+-- nothing is given, and the refusal is 23
+pub far_filled : {w : Option (List Float)} {r : Refusal} {xs : List Float} → none ≡ w → r ≡ FarMoment → Filled (Err r) xs w
+far_filled z e = record { written = z; answer = ap Err e ∙ ap filled_answer z }
 
--- what is refused gives nothing
-pub filled_not : (n : ℕ) (l : List Float) → (n ≡ 0 → ⊥) → filled n l ≡ none
-filled_not zero l h = absurd (h refl)
-filled_not (suc n) l h = refl
+-- a refusal says that nothing is given, and is 23
+pub refused_far : {w : Option (List Float)} {r : Refusal} {xs : List Float} → Filled (Err r) xs w → r ≡ FarMoment
+refused_far {w} {r} f = far w (f.answer)
+  where
+    far : (w : Option (List Float)) → Err r ≡ filled_answer w → r ≡ FarMoment
+    far none e = cc
+    far (some xs) e = cc
 
-module _ (second : Bool) (g : Station) (d : Passes) (x : List Float) (r : ℕ) where
-  far_then : (w v : Option (List Float)) (l : List Float) → (r ≡ 0 → ⊥) → Filled r l w → (w then v) ≡ w
-  far_then none v l h p = refl
-  far_then (some xs) v l h p = absurd (h p.number)
+-- all is given, and is what was written
+pub all_filled : {w : Option (List Float)} {xs : List Float} → some xs ≡ w → Filled (Ok tt) xs w
+all_filled z = record { written = z; answer = ap filled_answer z }
 
-  pub residuals_far : (l m : List Float) → (r ≡ 0 → ⊥) → Filled r l (passes (residual second g d x) 0 0 d.counts) → Filled r m (residuals second g d x)
+module _ (second : Bool) (g : Station) (d : Passes) (x : List Float) where
+  far_then : (w v : Option (List Float)) → none ≡ w → (w then v) ≡ w
+  far_then none v z = refl
+  far_then (some xs) v z = cc
+
+  pub residuals_far : (e : Refusal) (l m : List Float) → Filled (Err e) l (passes (residual second g d x) 0 0 d.counts) → Filled (Err e) m (residuals second g d x)
   unfolding residuals
-  residuals_far l m h p =
-      let same = far_then (passes (residual second g d x) 0 0 d.counts) (some (penalties second x (length d.counts))) l h p in
-      record { written = filled_not r m h ∙ sym (filled_not r l h) ∙ p.written ∙ sym same; number = p.number ∙ ap filled_refusal (sym same) }
+  residuals_far e l m p =
+      far_filled (p.written ∙ sym (far_then (passes (residual second g d x) 0 0 d.counts) (some (penalties second x (length d.counts))) p.written)) (refused_far p)
 
   -- what is written after the samples' residuals l is the penalties
-  whole_written : (j : ℕ) (l o : List Float) → r ≡ 0 → Filled r l (passes (residual second g d x) 0 0 d.counts)
-      → take j o ≡ l ++ penalties second x (length d.counts) → Filled 0 (take j o) (residuals second g d x)
+  whole_written : (u : ⊤) (j : ℕ) (l o : List Float) → Filled (Ok u) l (passes (residual second g d x) 0 0 d.counts)
+      → take j o ≡ l ++ penalties second x (length d.counts) → Filled (Ok tt) (take j o) (residuals second g d x)
   unfolding residuals
-  whole_written j l o z p e =
-      let first : some l ≡ passes (residual second g d x) 0 0 d.counts = sym (ap (λ (k : ℕ). filled k l) z) ∙ p.written in
-      let whole : some (take j o) ≡ (passes (residual second g d x) 0 0 d.counts then some (penalties second x (length d.counts)))
-      = ap some e ∙ ap (◌then some (penalties second x (length d.counts))) first in
-      record { written = whole; number = ap filled_refusal whole }
+  whole_written u j l o p e = all_filled (ap some e ∙ ap (◌then some (penalties second x (length d.counts))) p.written)
 
-  module _ (n m : ℕ) (o₁ o₂ : List Float) (z : r ≡ 0) (p : Filled r (take n o₁) (passes (residual second g d x) 0 0 d.counts)) (c : length d.counts ≡ m)
+  module _ (u : ⊤) (n m : ℕ) (o₁ o₂ : List Float) (p : Filled (Ok u) (take n o₁) (passes (residual second g d x) 0 0 d.counts)) (c : length d.counts ≡ m)
       (e₂ : take (n + m) o₂ ≡ take n o₁ ++ dt_penalties second x 0 m) where
-    pub first_written : second ≡ false → Filled 0 (take (rows_of second n m) o₂) (residuals second g d x)
+    pub first_written : second ≡ false → Filled (Ok tt) (take (rows_of second n m) o₂) (residuals second g d x)
     unfolding rows_of penalties
-    first_written e = whole_written (rows_of second n m) (take n o₁) o₂ z p (rw (e, c, append-nil) (rw e at e₂))
+    first_written e = whole_written u (rows_of second n m) (take n o₁) o₂ p (rw (e, c, append-nil) (rw e at e₂))
 
     pub second_written : (o₃ : List Float) → second ≡ true → take (n + m + 2 * m) o₃ ≡ take (n + m) o₂ ++ drift_penalties x 0 m
-        → Filled 0 (take (rows_of second n m) o₃) (residuals second g d x)
+        → Filled (Ok tt) (take (rows_of second n m) o₃) (residuals second g d x)
     unfolding rows_of penalties
     second_written o₃ e e₃ =
         let sizes : n + 3 * m ≡ n + m + 2 * m = omega arith in
-        whole_written (rows_of second n m) (take n o₁) o₃ z p
+        whole_written u (rows_of second n m) (take n o₁) o₃ p
         (rw (e, c, sizes) (e₃ ∙ ap (◌++ drift_penalties x 0 m) (rw e at e₂) ∙ append_assoc (take n o₁) (dt_penalties true x 0 m) (drift_penalties x 0 m)))
 
-module _ (r : ℕ) (l : List Float) where
-  pub sum_far : (w : Option (List Float)) → (r ≡ 0 → ⊥) → Filled r l w → Summed l w (NoSum r)
-  sum_far none h p = record { answer = ap NoSum p.number; written = refl }
-  sum_far (some xs) h p = absurd (h p.number)
+pub sum_far : (e : Refusal) (l : List Float) (w : Option (List Float)) → Filled (Err e) l w → Summed l w (Err e)
+sum_far e l none p = record { answer = ap Err (refused_far p); written = refl }
+sum_far e l (some xs) p = let z = p.written in cc
 
-  pub sum_is : (v : Float) (w : Option (List Float)) → r ≡ 0 → Filled r l w → v ≡ sum_of l → Summed l w (Value v)
-  sum_is v w z p s =
-      let is : some l ≡ w = sym (ap (λ (k : ℕ). filled k l) z) ∙ p.written in
-      record { answer = rw (s, ← is); written = rw (← is) }
+pub sum_is : (u : ⊤) (l : List Float) (v : Float) (w : Option (List Float)) → Filled (Ok u) l w → v ≡ sum_of l → Summed l w (Ok v)
+sum_is u l v w p s = record { answer = rw (s, ← p.written); written = rw (← p.written) }
 
 -- what a trial that was not refused left are the set's residuals
-pub summed_known : (xs : List Float) (w : Option (List Float)) (r : Sum) (v : Float) → Summed xs w r → r ≡ Value v → some xs ≡ w
+pub summed_known : (xs : List Float) (w : Option (List Float)) (r : Result Float Refusal) (v : Float) → Summed xs w r → r ≡ Ok v → some xs ≡ w
 summed_known xs none r v s e = let a = s.answer in cc
 summed_known xs (some ys) r v s e = s.written

@@ -125,10 +125,10 @@ pub record Counted (times : List ℤ) (k : ℕ) (out : List ℕ) : Type 0 where
 pub none_counted : (times : List ℤ) (out : List ℕ) → Counted times 0 out
 none_counted times out = record { whole = refl }
 
-pub one_counted : {times : List ℤ} {out : List ℕ} {k : ℕ} → k < length times → k < length out → Counted times k out → (o : List ℕ) → o ≡ set out k (count_at (get_or times k (pos 0)))
-    → Counted times (k + 1) o
+pub one_counted : {times : List ℤ} {out : List ℕ} {k : ℕ} → k < length times → k < length out → Counted times k out → (n : ℕ) → n ≡ count_at (get_or times k (pos 0))
+    → Counted times (k + 1) (set out k n)
 unfolding counts_at
-one_counted {times} {out} {k} h l w o e =
+one_counted {times} {out} {k} h l w n e =
     record { whole = rw e (stored out k _ _ l ∙ ap (take k out ++◌) (sym (rw add-one (ap counts_at (drop-cons times k (pos 0) h)))) ∙ w.whole) }
 
 pub all_counted : {times : List ℤ} {out : List ℕ} {k : ℕ} → k ≤ length times → length times ≤ k → Counted times k out → take (length times) out ≡ counts_at times

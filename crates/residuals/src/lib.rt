@@ -3,7 +3,7 @@
 // The functions of this crate are called with what they require by the crates above, which meet it by proof.
 #![tactic(auto)]
 
-ghost use Rattle.std.specs.Prelude.{◌≡◌, true, ◌++◌, ◌+◌, ◌*◌, ◌<◌, ◌≤◌, length, get_or, set, take, pos};
+ghost use Rattle.std.specs.Prelude.{◌≡◌, true, ◌++◌, ◌+◌, ◌*◌, ◌<◌, ◌≤◌, length, take};
 ghost use Rattle.std.specs.Float.Ieee.{neg};
 ghost use Rattle.float.specs.Ops.{bits};
 ghost use Rattle.moment.specs.Origin.{count1957, count2057};
@@ -56,13 +56,6 @@ pub enum Bias {
     Polynomial(DfPoly),
 }
 
-// A penalised sum, or the number of a refusal.
-#[derive(Clone, Copy)]
-pub enum Sum {
-    Value(f64),
-    Refused(u32),
-}
-
 // ---- a set's parts
 
 pub fn elements_of(x: [f64; PARAMS]) -> Elements
@@ -112,20 +105,13 @@ fn count_at(t: i64) -> u64
     (t + moment::COUNT_1970) as u64
 }
 
-fn put_count(times: &[i64], k: usize, out: &mut [u64])
-    requires { Timed times.now × (k < length times.now) × (k < length out.old) }
-    ensures { out.new ≡ set out.old k (count_at (get_or times.now k (pos 0))) }
-{
-    out[k] = count_at(times[k]);
-}
-
 // Writes the counts of all sample times to the first places of out.
 pub fn counts_at(times: &[i64], out: &mut [u64])
     requires { Timed times.now × (length times.now ≤ length out.old) }
     ensures { take (length times.now) out.new ≡ counts_at times.now }
 {
-    for k in 0..times.len() {
-        put_count(times, k, out);
+    for (k, &t) in times.iter().enumerate() {
+        out[k] = count_at(t);
     }
 }
 
@@ -152,8 +138,8 @@ pub fn rotations(times: &[u64], turns: &mut [f64])
     requires { DatedTimes times.now × (length times.now ≤ 4096) × (2 * length times.now ≤ length turns.old) }
     ensures { Rotations times.now turns.new }
 {
-    for k in 0..times.len() {
-        let r = rotation_at(times[k]);
+    for (k, &t) in times.iter().enumerate() {
+        let r = rotation_at(t);
         turns[2 * k] = r.sin;
         turns[2 * k + 1] = r.cos;
     }
@@ -215,7 +201,7 @@ fn predict_sample(
 
 // ---- all residuals
 
-// Writes the residuals of all samples, pass by pass, and gives 0; or gives refusal 23 at the first moment that is too far.
+// Writes the residuals of all samples, pass by pass; refused, by 23, at the first moment that is too far.
 fn sample_residuals(
     set: Point,
     counts: &[u32],
@@ -223,7 +209,7 @@ fn sample_residuals(
     freqs: &[f64],
     turns: &[f64],
     out: &mut [f64],
-) -> u32
+) -> Result<(), Refusal>
     requires { Samples set.station (passes_of counts.now times.now freqs.now) turns.now × (length times.now ≤ length out.old) }
     ensures { Filled result (take (length times.now) out.new)
         (passes (residual set.second set.station (passes_of counts.now times.now freqs.now) set.params) 0 0 counts.now) }
@@ -232,30 +218,25 @@ fn sample_residuals(
     let x = set.params;
     let e = elements_of(x);
     let sight = orbit::doppler::sight_of(set.station, e);
-    let mut refusal = 0u32;
+    let mut answer = Ok(());
     let mut k = 0usize;
-    let mut p = 0usize;
-    'passes: while p < counts.len() {
+    'passes: for (p, &count) in counts.iter().enumerate() {
         let first = k;
-        let end = k + counts[p] as usize;
+        let end = first + count as usize;
         let dt = dt_of(second, x, p);
         let b = biases_of(second, x, p);
-        while k < end {
-            let pred = predict_sample(times, turns, sight, dt, b, first, k);
-            match pred {
+        for j in first..end {
+            match predict_sample(times, turns, sight, dt, b, first, j) {
+                Ok(v) => out[j] = freqs[j] - (set.station.center_freq + v),
                 Err(far) => {
-                    refusal = far.number();
+                    answer = Err(far);
                     break 'passes;
                 }
-                Ok(v) => {
-                    out[k] = freqs[k] - (set.station.center_freq + v);
-                }
             }
-            k += 1;
         }
-        p += 1;
+        k = end;
     }
-    refusal
+    answer
 }
 
 // Writes the penalties on dt from `at` on.
@@ -263,11 +244,8 @@ fn dt_penalties(second: bool, x: [f64; PARAMS], passes: usize, out: &mut [f64], 
     requires { (passes ≤ 16) × (at + passes ≤ length out.old) }
     ensures { take (at + passes) out.new ≡ take at out.old ++ dt_penalties second x 0 passes }
 {
-    let mut p = 0usize;
-    while p < passes {
-        let dt = dt_of(second, x, p);
-        out[at + p] = dt * 10.0;
-        p += 1;
+    for p in 0..passes {
+        out[at + p] = dt_of(second, x, p) * 10.0;
     }
 }
 
@@ -276,13 +254,9 @@ fn drift_penalties(x: [f64; PARAMS], passes: usize, out: &mut [f64], at: usize)
     requires { (passes ≤ 16) × (at + 2 * passes ≤ length out.old) }
     ensures { take (at + 2 * passes) out.new ≡ take at out.old ++ drift_penalties x 0 passes }
 {
-    let mut p = 0usize;
-    let mut k = at;
-    while p < passes {
-        out[k] = x[4 + 4 * p + 2] * 100.0;
-        out[k + 1] = x[4 + 4 * p + 3] * 10000.0;
-        k += 2;
-        p += 1;
+    for p in 0..passes {
+        out[at + 2 * p] = x[4 + 4 * p + 2] * 100.0;
+        out[at + 2 * p + 1] = x[4 + 4 * p + 3] * 10000.0;
     }
 }
 
@@ -298,7 +272,7 @@ pub fn rows_of(second: bool, samples: usize, passes: usize) -> usize
     }
 }
 
-// Writes the residuals of a set to the first places of out and gives 0, or gives refusal 23.
+// Writes the residuals of a set to the first places of out. Refused: 23.
 pub fn residuals_into(
     set: Point,
     counts: &[u32],
@@ -306,35 +280,31 @@ pub fn residuals_into(
     freqs: &[f64],
     turns: &[f64],
     out: &mut [f64],
-) -> u32
+) -> Result<(), Refusal>
     requires { Samples set.station (passes_of counts.now times.now freqs.now) turns.now × (length times.now + 3 * length counts.now ≤ length out.old) }
     ensures { Filled result (take (rows_of set.second (length times.now) (length counts.now)) out.new)
         (residuals set.second set.station (passes_of counts.now times.now freqs.now) set.params) }
 {
     let second = set.second;
     let x = set.params;
-    let refusal = sample_residuals(set, counts, times, freqs, turns, out);
-    if refusal != 0 {
-        return refusal;
-    }
+    sample_residuals(set, counts, times, freqs, turns, out)?;
     let n = times.len();
     let m = counts.len();
     dt_penalties(second, x, m, out, n);
     if !second {
-        return 0;
+        return Ok(());
     }
     drift_penalties(x, m, out, n + m);
-    0
+    Ok(())
 }
 
-// The squares of the first n numbers, added in order from -0.0 on, as Rust's sum does.
-fn sum_squares(r: &[f64], n: usize) -> f64
-    requires { n ≤ length r.now }
-    ensures { result ≡ sum_squares (neg (bits 0)) (take n r.now) }
+// The squares of all numbers, added in order from -0.0 on, as Rust's sum does.
+fn sum_squares(r: &[f64]) -> f64
+    ensures { result ≡ sum_squares (neg (bits 0)) r.now }
 {
     let mut sum = -0.0;
-    for k in 0..n {
-        sum = sum + r[k] * r[k];
+    for v in r {
+        sum += v * v;
     }
     sum
 }
@@ -347,15 +317,12 @@ pub fn penalised_sum(
     freqs: &[f64],
     turns: &[f64],
     out: &mut [f64],
-) -> Sum
+) -> Result<f64, Refusal>
     requires { Samples set.station (passes_of counts.now times.now freqs.now) turns.now × (length times.now + 3 * length counts.now ≤ length out.old) }
     ensures { Summed (take (rows_of set.second (length times.now) (length counts.now)) out.new)
         (residuals set.second set.station (passes_of counts.now times.now freqs.now) set.params) result }
 {
-    let refusal = residuals_into(set, counts, times, freqs, turns, out);
-    if refusal != 0 {
-        return Sum::Refused(refusal);
-    }
+    residuals_into(set, counts, times, freqs, turns, out)?;
     let rows = rows_of(set.second, times.len(), counts.len());
-    Sum::Value(sum_squares(out, rows))
+    Ok(sum_squares(&out[..rows]))
 }

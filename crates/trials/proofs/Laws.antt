@@ -3,22 +3,25 @@ use mathlib.Core.Path.{◌≡◌, refl, sym, ap, ◌∙◌}
 use mathlib.Core.Bool.{Bool, true, false, cond}
 use mathlib.Core.List.{List, [], ◌∷◌, ◌++◌, append_assoc}
 use mathlib.Core.Option.{Option, none, some}
-use Prim.Native.Nat.{ℕ, zero, suc, ◌+◌, ◌*◌, ◌<◌, ◌≤◌}
+use Prim.Native.Nat.{ℕ, suc, ◌+◌, ◌*◌, ◌<◌, ◌≤◌}
 use native.Mathlib.Numerals.{add-one}
 use native.Mathlib.Omega.{arith}
 use lib.ListN.{length, get_or, take, drop, set, length-append}
 use lib.Seq.{take-suc, take-length, drop-cons, set_at, length-take-le}
 use lib.Ieee.{Float, nan, lt}
 use borrow.Author.Tests.{ne_eqb}
+use Rattle.std.specs.Bool.{⊤}
+use Rattle.std.proofs.Common.{Result, Ok, Err}
 use Rattle.refusal.specs.Numbers as refusal
+use Rattle.refusal.specs.Refusals.{number_of}
+use Rattle.refusal.specs.declared.Refusal.{Refusal}
+use Rattle.refusal.specs.declared.Refusal.TheVariants.{FarMoment}
 use Rattle.float.specs.Ops.{◌⊗◌, ◌⊘◌, bits}
 use Rattle.orbit.specs.declared.doppler.Station.{Station}
 use Rattle.residuals.specs.Samples.{Passes}
 use Rattle.residuals.specs.Residuals.{each, sum_of, residuals, penalised_sum}
-use Rattle.residuals.specs.Answers.{sum_answer, filled_refusal, Summed, Filled}
-use Rattle.residuals.specs.declared.Sum.{Sum}
-use Rattle.residuals.specs.declared.Sum.TheVariants.{Value, Refused}
-use Rattle.residuals.proofs.Laws.{filled_not}
+use Rattle.residuals.specs.Answers.{sum_answer, Summed, Filled}
+use Rattle.residuals.proofs.Laws.{refused_far}
 use Rattle.normal.specs.Step.{Outcome, next, short, refused}
 use Rattle.normal.specs.Answers.{outcome}
 use Rattle.normal.specs.declared.Step.{Step}
@@ -34,17 +37,17 @@ use Rattle.trials.specs.declared.Followed.{Followed}
 
 -- ---- a sum, or refusal 23
 
-value_of : (o : Option Float) (v : Float) → Value v ≡ sum_answer o → o ≡ some v
+value_of : (o : Option Float) (v : Float) → Ok v ≡ sum_answer o → o ≡ some v
 value_of none v h = cc
 value_of (some w) v h = cc
 
-far_of : (o : Option Float) (k : ℕ) → Refused k ≡ sum_answer o → o ≡ none
-far_of none k h = refl
-far_of (some w) k h = cc
+far_of : (o : Option Float) (e : Refusal) → Err e ≡ sum_answer o → o ≡ none
+far_of none e h = refl
+far_of (some w) e h = cc
 
-far_number : (o : Option Float) (k : ℕ) → Refused k ≡ sum_answer o → k ≡ refusal.far_moment
-far_number none k h = cc
-far_number (some w) k h = cc
+far_alone : (o : Option Float) (e : Refusal) → Err e ≡ sum_answer o → e ≡ FarMoment
+far_alone none e h = cc
+far_alone (some w) e h = cc
 
 known_of : (w : Option (List Float)) (xs : List Float) (v : Float) → each sum_of w ≡ some v → each (λ _. xs) w ≡ w → some xs ≡ w
 known_of none xs v e h = cc
@@ -52,30 +55,19 @@ known_of (some ys) xs v e h = h
 
 module _ (second : Bool) (g : Station) (d : Passes) (x : List Float) where
   -- the sum is the definition's, and the residuals are there
-  pub summed : (xs : List Float) (v : Float) (r : Sum) → Summed xs (residuals second g d x) r → Value v ≡ r → penalised_sum second g d x ≡ some v
+  pub summed : (xs : List Float) (v : Float) (r : Result Float Refusal) → Summed xs (residuals second g d x) r → Ok v ≡ r → penalised_sum second g d x ≡ some v
   unfolding penalised_sum
   summed xs v r s e = value_of (each sum_of (residuals second g d x)) v (e ∙ s.answer)
 
-  pub summed_known : (xs : List Float) (v : Float) (r : Sum) → Summed xs (residuals second g d x) r → Value v ≡ r → some xs ≡ residuals second g d x
+  pub summed_known : (xs : List Float) (v : Float) (r : Result Float Refusal) → Summed xs (residuals second g d x) r → Ok v ≡ r → some xs ≡ residuals second g d x
   summed_known xs v r s e = known_of (residuals second g d x) xs v (value_of (each sum_of (residuals second g d x)) v (e ∙ s.answer)) s.written
 
-  pub summed_far : (xs : List Float) (k : ℕ) (r : Sum) → Summed xs (residuals second g d x) r → Refused k ≡ r → penalised_sum second g d x ≡ none
+  pub summed_far : (xs : List Float) (e : Refusal) (r : Result Float Refusal) → Summed xs (residuals second g d x) r → Err e ≡ r → penalised_sum second g d x ≡ none
   unfolding penalised_sum
-  summed_far xs k r s e = far_of (each sum_of (residuals second g d x)) k (e ∙ s.answer)
+  summed_far xs e r s q = far_of (each sum_of (residuals second g d x)) e (q ∙ s.answer)
 
-  summed_number : (xs : List Float) (k : ℕ) (r : Sum) → Summed xs (residuals second g d x) r → Refused k ≡ r → k ≡ refusal.far_moment
-  summed_number xs k r s e = far_number (each sum_of (residuals second g d x)) k (e ∙ s.answer)
-
-  -- ---- the residuals at hand
-
-  pub known_filled : (xs : List Float) → some xs ≡ residuals second g d x → Filled 0 xs (residuals second g d x)
-  known_filled xs h = record { written = h; number = ap filled_refusal h }
-
-  pub filled_known : (n : ℕ) (xs : List Float) → Filled n xs (residuals second g d x) → n ≡ 0 → some xs ≡ residuals second g d x
-  filled_known n xs f z = rw z at f.written
-
-  filled_far : (n : ℕ) (xs : List Float) → Filled n xs (residuals second g d x) → (n ≡ 0 → ⊥) → none ≡ residuals second g d x
-  filled_far n xs f h = sym (filled_not n xs h) ∙ f.written
+  summed_alone : (xs : List Float) (e : Refusal) (r : Result Float Refusal) → Summed xs (residuals second g d x) r → Err e ≡ r → e ≡ FarMoment
+  summed_alone xs e r s q = far_alone (each sum_of (residuals second g d x)) e (q ∙ s.answer)
 
   -- ---- what follows a trial
 
@@ -83,11 +75,11 @@ module _ (second : Bool) (g : Station) (d : Passes) (x : List Float) where
     abbrev goal : Outcome
     goal = onward (penalised_sum second g d) (advance_of second g d) enough s
 
-    pub onward_far : (n : ℕ) (xs : List Float) → Filled n xs (residuals second g d x) → (n ≡ 0 → ⊥) → refused n ≡ goal
+    pub onward_far : (e : Refusal) (k : ℕ) (xs : List Float) → Filled (Err e) xs (residuals second g d x) → k ≡ number_of e → refused k ≡ goal
     unfolding onward penalised_sum
-    onward_far n xs f h =
-        let z = filled_far n xs f h in
-        rw (here, ← z) (ap refused (f.number ∙ ap filled_refusal (sym z)))
+    onward_far e k xs f q =
+        let z : none ≡ residuals second g d x = f.written in
+        rw (here, ← z) (ap refused (q ∙ ap number_of (refused_far f)))
 
     pub onward_short : (xs : List Float) → some xs ≡ residuals second g d x → enough ≡ false → short ≡ goal
     unfolding onward penalised_sum
@@ -98,31 +90,30 @@ module _ (second : Bool) (g : Station) (d : Passes) (x : List Float) where
     onward_step xs h e = rw (here, ← h, e)
 
     -- by one of the three
-    pub follows : (r scratch scratch' : List Float) (n : ℕ) (o : Outcome) (f : Followed) → Filled n (take (rows_in second d) r) (residuals second g d x) → o ≡ goal
+    pub follows : (r scratch scratch' : List Float) (n : Result ⊤ Refusal) (o : Outcome) (f : Followed) → Filled n (take (rows_in second d) r) (residuals second g d x) → o ≡ goal
         → Arrives s o f → drop (cells_of second d) scratch' ≡ drop (cells_of second d) scratch → Follows second enough g d s r scratch scratch' f
     follows r scratch scratch' n o f w e a b =
         record { arrives = rw e at a; left = rw here (left_by n (take (rows_in second d) r) (residuals second g d x) w); behind = b }
       where
-        left_by : (n : ℕ) (ys : List Float) (w : Option (List Float)) → Filled n ys w → each (λ _. ys) w ≡ w
-        left_by zero ys none f = refl
-        left_by (suc n) ys none f = refl
-        left_by zero ys (some zs) f = f.written
-        left_by (suc n) ys (some zs) f = let z = f.written in cc
+        left_by : (n : Result ⊤ Refusal) (ys : List Float) (w : Option (List Float)) → Filled n ys w → each (λ _. ys) w ≡ w
+        left_by n ys none f = refl
+        left_by (Ok u) ys (some zs) f = f.written
+        left_by (Err e) ys (some zs) f = let z = f.written in cc
 
 -- ---- a trial's answer
 
-module _ (second : Bool) (g : Station) (d : Passes) (s : Search) (r : List Float) (a : Sum) (w : Summed (take (rows_in second d) r) (residuals second g d s.next) a) where
-  pub tried_value : (v : Float) (k : Bool) (t : State) → Value v ≡ a → k ≡ lt v s.best → state_after t ≡ judged v s → Tries second g d s r (record { sum = Value v; kept = k; state = t })
+module _ (second : Bool) (g : Station) (d : Passes) (s : Search) (r : List Float) (a : Result Float Refusal) (w : Summed (take (rows_in second d) r) (residuals second g d s.next) a) where
+  pub tried_value : (v : Float) (k : Bool) (t : State) → Ok v ≡ a → k ≡ lt v s.best → state_after t ≡ judged v s → Tries second g d s r (record { sum = Ok v; kept = k; state = t })
   tried_value v k t e ek j =
       let z = summed second g d s.next _ v a w e in
       record { summed = rw e w; kept = rw z ek; after = rw z j }
 
-  pub tried_far : (n : ℕ) (t : State) → Refused n ≡ a → state_after t ≡ record { search = s; ended = RefusedEnd n }
-      → Tries second g d s r (record { sum = Refused n; kept = false; state = t })
-  tried_far n t e j =
-      let z = summed_far second g d s.next _ n a w e in
-      let m = summed_number second g d s.next _ n a w e in
-      record { summed = rw e w; kept = rw z; after = rw z (rw m at j) }
+  pub tried_far : (e : Refusal) (k : ℕ) (t : State) → Err e ≡ a → k ≡ number_of e → state_after t ≡ record { search = s; ended = RefusedEnd k }
+      → Tries second g d s r (record { sum = Err e; kept = false; state = t })
+  tried_far e k t q n j =
+      let z = summed_far second g d s.next _ e a w q in
+      let m = n ∙ ap number_of (summed_alone second g d s.next _ e a w q) in
+      record { summed = rw q w; kept = rw z; after = rw z (rw m at j) }
 
 -- ---- where a step leads
 
@@ -212,7 +203,7 @@ reached s x size t h = let h' = rw small_step_bits at h in rw h'
 pub kept_set : (s : Search) (v : Float) (t : State) → state_after t ≡ judged v s → lt v s.best ≡ true → t.params ≡ s.next
 kept_set s v t j h = ap (λ (a : After). a.search.next) (j ∙ sym (judged_kept s v h))
 
-pub kept_held : (second : Bool) (g : Station) (d : Passes) (s : Search) (r : List Float) (t : Tried) (v : Float) → Tries second g d s r t → Value v ≡ t.sum → t.kept ≡ true
+pub kept_held : (second : Bool) (g : Station) (d : Passes) (s : Search) (r : List Float) (t : Tried) (v : Float) → Tries second g d s r t → Ok v ≡ t.sum → t.kept ≡ true
     → some (take (rows_in second d) r) ≡ residuals second g d t.state.params
 kept_held second g d s r t v w e k =
     let z = summed second g d s.next _ v t.sum w.summed e in

@@ -16,7 +16,8 @@ ghost use Rattle.trials.specs.Trials.{state_search, state_after, TrialsAsk, Trie
 use book::Ending;
 use normal::Step;
 use orbit::doppler::Station;
-use residuals::{PARAMS, Point, ROWS, Sum};
+use refusal::Refusal;
+use residuals::{PARAMS, Point, ROWS};
 
 // Which refinement, whether its residuals are enough for a step, and what its predictions share.
 #[derive(Clone, Copy)]
@@ -39,7 +40,7 @@ pub struct State {
 // What a trial leaves: the sum or its refusal, whether the sum was below the best, and the state after it.
 #[derive(Clone, Copy)]
 pub struct Tried {
-    pub sum: Sum,
+    pub sum: Result<f64, Refusal>,
     pub kept: bool,
     pub state: State,
 }
@@ -142,7 +143,7 @@ pub fn trial(
     };
     let answer = residuals::penalised_sum(set, counts, times, freqs, turns, r);
     match answer {
-        Sum::Value(sum) => {
+        Ok(sum) => {
             let state = judge(s, sum);
             Tried {
                 sum: answer,
@@ -150,8 +151,8 @@ pub fn trial(
                 state,
             }
         }
-        Sum::Refused(number) => {
-            let state = end(s, Ending::Refused(number));
+        Err(far) => {
+            let state = end(s, Ending::Refused(far.number()));
             Tried {
                 sum: answer,
                 kept: false,
@@ -217,14 +218,14 @@ fn at_hand(
     freqs: &[f64],
     turns: &[f64],
     r: &mut [f64],
-) -> u32
+) -> Result<(), Refusal>
     requires { Samples p.station (passes_of counts.now times.now freqs.now) turns.now
         × HeldResiduals p.second known p.station (passes_of counts.now times.now freqs.now) p.params r.old }
     ensures { Filled result (take (rows_of p.second (length times.now) (length counts.now)) r.new)
         (residuals p.second p.station (passes_of counts.now times.now freqs.now) p.params) }
 {
     if known {
-        return 0;
+        return Ok(());
     }
     residuals::residuals_into(p, counts, times, freqs, turns, r)
 }
@@ -259,9 +260,8 @@ pub fn follow(
         station,
         params,
     };
-    let number = at_hand(p, known, counts, times, freqs, turns, r);
-    if number != 0 {
-        return arrive(s, params, Step::Refused(number));
+    if let Err(far) = at_hand(p, known, counts, times, freqs, turns, r) {
+        return arrive(s, params, Step::Refused(far.number()));
     }
     if !enough {
         return arrive(s, params, Step::Short);
@@ -306,7 +306,7 @@ pub fn refine_trials(
         let after = t.state;
         s = after;
         let answer = t.sum;
-        let Sum::Value(sum) = answer else {
+        let Ok(sum) = answer else {
             break;
         };
         log[n] = sum;

@@ -5,8 +5,8 @@ use borrow.Author.Rules.{rules}
 use Rattle.probes.proofs.Calls.{samples_of_lem, put_fits, sums_given, sums_far}
 use Rattle.probes.proofs.sum_of.Goals as goal
 
-pub penalised_sum-answer-requires : goal.penalised_sum-answer-requires
-penalised_sum-answer-requires c =
+pub penalised_sum-requires : goal.penalised_sum-requires
+penalised_sum-requires c =
     let p = c.requires in
     (samples_of_lem _ _ _ _ _ p.0 p.1 p.2, search rules)
 
@@ -15,12 +15,12 @@ slice_bounds-put-end c = sym (length-take-le _ _ (search rules))
 
 pub put-requires : goal.put-requires
 put-requires c =
-    put_fits c.rows_of-rows.result _ c.penalised_sum-answer.new.out (search rules) (search rules)
+    put_fits c.rows_of-rows.result _ c.penalised_sum.new.out (search rules) (search rules)
 
-pub returns-in-Value : goal.returns-in-Value
-returns-in-Value c =
-    sums_given _ _ _ _ _ _ (rw (← c.rows_of-rows.ensures.0) at c.penalised_sum-answer.ensures) c.in-Value.is c.put.ensures
+pub returns-in-Ok : goal.returns-in-Ok
+returns-in-Ok c =
+    sums_given _ _ _ _ _ _ (rw (← c.rows_of-rows.ensures.0) at c.penalised_sum.ensures) c.in-Ok.is c.put.ensures
 
-pub returns-in-Refused : goal.returns-in-Refused
-returns-in-Refused c =
-    sums_far _ _ _ _ _ c.penalised_sum-answer.ensures c.in-Refused.is
+pub returns-in-Err : goal.returns-in-Err
+returns-in-Err c =
+    sums_far _ _ _ _ _ _ c.penalised_sum.ensures c.in-Err.is c.number.ensures

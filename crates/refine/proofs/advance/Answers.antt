@@ -18,8 +18,8 @@ pub slice_bounds-jacobian-end-2 : goal.slice_bounds-jacobian-end-2
 slice_bounds-jacobian-end-2 c =
     sym (length-take-le _ _ (cells_fit _ _ _ _ _ _ _ _ c.requires c.place_of-n.ensures.0))
 
-pub jacobian-refusal-requires : goal.jacobian-refusal-requires
-jacobian-refusal-requires c =
+pub jacobian-requires : goal.jacobian-requires
+jacobian-requires c =
     let pre = c.requires in
     let en = c.place_of-n.ensures.0 in (
       pre.samples,
@@ -27,13 +27,13 @@ jacobian-refusal-requires c =
       pre.rows,
     )
 
-pub returns-then-refusal-ne0 : goal.returns-then-refusal-ne0
-returns-then-refusal-ne0 c =
+pub returns-in-Err : goal.returns-in-Err
+returns-in-Err c =
     let pre = c.requires in
     let en = c.place_of-n.ensures.0 in
     record {
-      outcome = advance_far _ _ _ _ _ _ _ _ pre en _ _ _ _ (length-take-le _ _ (cells_fit _ _ _ _ _ _ _ _ pre en)) c.jacobian-refusal.ensures c.if-refusal-ne0.true;
-      behind = behind _ _ _ _ _ _ _ _ pre en c.jacobian-refusal.new.table c.args.scratch.now _ (c.jacobian-refusal.auto.table ∙ length-take-le _ _ (cells_fit _ _ _ _ _ _ _ _ pre en)) refl;
+      outcome = advance_far _ _ _ _ _ _ _ _ pre en _ _ _ (length-take-le _ _ (cells_fit _ _ _ _ _ _ _ _ pre en)) _ _ c.in-Err.ensures c.number.ensures;
+      behind = behind _ _ _ _ _ _ _ _ pre en c.jacobian.new.table c.args.scratch.now _ (c.jacobian.auto.table ∙ length-take-le _ _ (cells_fit _ _ _ _ _ _ _ _ pre en)) refl;
     }
 
 pub slice_bounds-damped_step-end : goal.slice_bounds-damped_step-end
@@ -57,6 +57,6 @@ returns c =
     let pre = c.requires in
     let en = c.place_of-n.ensures.0 in
     record {
-      outcome = advance_done _ _ _ _ _ _ _ _ pre en _ _ _ _ (length-take-le _ _ (cells_fit _ _ _ _ _ _ _ _ pre en)) c.jacobian-refusal.ensures _ _ _ c.if-refusal-ne0.false refl c.damped_step.ensures;
-      behind = behind _ _ _ _ _ _ _ _ pre en c.jacobian-refusal.new.table c.args.scratch.now _ (c.jacobian-refusal.auto.table ∙ length-take-le _ _ (cells_fit _ _ _ _ _ _ _ _ pre en)) refl;
+      outcome = advance_done _ _ _ _ _ _ _ _ pre en _ _ _ (length-take-le _ _ (cells_fit _ _ _ _ _ _ _ _ pre en)) _ _ _ _ c.in_default.ensures refl c.damped_step.ensures;
+      behind = behind _ _ _ _ _ _ _ _ pre en c.jacobian.new.table c.args.scratch.now _ (c.jacobian.auto.table ∙ length-take-le _ _ (cells_fit _ _ _ _ _ _ _ _ pre en)) refl;
     }

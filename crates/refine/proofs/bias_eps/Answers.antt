@@ -1,20 +1,23 @@
 -- `bias_eps` meets its contract. Assumes nothing.
 use Rattle.refine.specs.Jacobian.{milli_bits, hundredth_bits, tenth_milli_bits, micro_bits, bias_eps}
-use borrow.Author.Tests.{eq-eqb, ne_eqb}
+use native.Mathlib.Omega.{arith}
+use borrow.Author.Tests.{ne_eqb}
 use Rattle.refine.proofs.bias_eps.Goals as goal
 
-pub returns-then-j-eq0 : goal.returns-then-j-eq0
+pub returns-in-0 : goal.returns-in-0
 unfolding bias_eps
-returns-then-j-eq0 c = rw (eq-eqb _ _ c.if-j-eq0.true) milli_bits
+returns-in-0 c = rw c.in-0.is milli_bits
 
-pub returns-then-j-eq1 : goal.returns-then-j-eq1
+pub returns-in-1 : goal.returns-in-1
 unfolding bias_eps
-returns-then-j-eq1 c = rw (ne_eqb _ _ c.if-j-eq0.false, eq-eqb _ _ c.if-j-eq1.true) hundredth_bits
+returns-in-1 c = rw c.in-1.is hundredth_bits
 
-pub returns-then-j-eq2 : goal.returns-then-j-eq2
+pub returns-in-2 : goal.returns-in-2
 unfolding bias_eps
-returns-then-j-eq2 c = rw (ne_eqb _ _ c.if-j-eq0.false, ne_eqb _ _ c.if-j-eq1.false, eq-eqb _ _ c.if-j-eq2.true) tenth_milli_bits
+returns-in-2 c = rw c.in-2.is tenth_milli_bits
 
-pub returns-else-j-eq2 : goal.returns-else-j-eq2
+pub returns-in_default : goal.returns-in_default
 unfolding bias_eps
-returns-else-j-eq2 c = rw (ne_eqb _ _ c.if-j-eq0.false, ne_eqb _ _ c.if-j-eq1.false, ne_eqb _ _ c.if-j-eq2.false) micro_bits
+returns-in_default c =
+    let j = c.args.j in
+    rw (ne_eqb j 0 (λ q. omega arith), ne_eqb j 1 (λ q. omega arith), ne_eqb j 2 (λ q. omega arith)) micro_bits

@@ -1,19 +1,19 @@
 -- `jacobian` meets its contract. Assumes nothing.
+use Rattle.std.proofs.lemmas.Result.{err_from_is_err_and}
 use borrow.Author.Rules.{rules}
-use Rattle.refine.proofs.Columns.{again_fill, columns}
+use Rattle.refine.proofs.Columns.{again_fill, refused_fill, columns}
 use Rattle.refine.proofs.jacobian.Goals as goal
 
 pub loop-k-init : goal.loop-k-init
 loop-k-init c = search columns
 
-pub jacobian_column-refusal-requires : goal.jacobian_column-refusal-requires
-jacobian_column-refusal-requires c = search columns
+pub jacobian_column-requires : goal.jacobian_column-requires
+jacobian_column-requires c = search columns
 
-pub shape_of-table-then-refusal-ne0 : goal.shape_of-table-then-refusal-ne0
-shape_of-table-then-refusal-ne0 c = search columns
-
-pub returns-then-refusal-ne0 : goal.returns-then-refusal-ne0
-returns-then-refusal-ne0 c = search columns
+pub returns-in_err-jacobian_column : goal.returns-in_err-jacobian_column
+returns-in_err-jacobian_column c =
+    let p = err_from_is_err_and c.from_residual.result c.from_residual.ensures.1 in
+    rw (p.1, p.2) (refused_fill c.loop-k-test.true c.loop-k.invariant.2 c.in_err-jacobian_column.ensures)
 
 pub overflow_step-k : goal.overflow_step-k
 overflow_step-k c = search columns
@@ -23,7 +23,7 @@ loop-k-smaller c = search columns
 
 pub loop-k-preserved : goal.loop-k-preserved
 loop-k-preserved c =
-    (search rules, search rules, again_fill c.loop-k-test.true c.loop-k.invariant.2 c.jacobian_column-refusal.ensures c.if-refusal-ne0.false)
+    (search rules, search rules, again_fill c.loop-k-test.true c.loop-k.invariant.2 c.in_ok-jacobian_column.ensures)
 
 pub shape_of-table : goal.shape_of-table
 shape_of-table c = search columns

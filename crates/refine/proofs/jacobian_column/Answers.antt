@@ -2,6 +2,7 @@
 use mathlib.Core.Path.{sym}
 use native.Mathlib.Omega.{arith}
 use lib.Seq.{length-take-le}
+use Rattle.std.proofs.lemmas.Result.{err_from_is_err_and}
 use Rattle.residuals.specs.Residuals.{residuals}
 use Rattle.refine.specs.Jacobian.{eps_of}
 use Rattle.refine.proofs.Columns.{column_far, column_put}
@@ -12,14 +13,15 @@ perturbed-params-requires c =
     let pre = c.requires in
     omega (arith, pre.1.narrow, pre.3)
 
-pub residuals_into-refusal-requires : goal.residuals_into-refusal-requires
-residuals_into-refusal-requires c =
+pub residuals_into-requires : goal.residuals_into-requires
+residuals_into-requires c =
     let pre = c.requires in
     (pre.0, omega (arith, pre.0.few, pre.0.small))
 
-pub returns-then-refusal-ne0 : goal.returns-then-refusal-ne0
-returns-then-refusal-ne0 c =
-    column_far (eps_of _) (residuals _ _ _) _ _ _ _ _ _ _ _ c.param_eps-eps.ensures c.perturbed-params.ensures c.residuals_into-refusal.result _ _ c.if-refusal-ne0.true c.residuals_into-refusal.ensures
+pub returns-in_err-residuals_into : goal.returns-in_err-residuals_into
+returns-in_err-residuals_into c =
+    let p = err_from_is_err_and c.from_residual.result c.from_residual.ensures.1 in
+    rw (p.1, p.2) (column_far (eps_of _) (residuals _ _ _) _ _ _ _ _ _ _ _ c.param_eps-eps.ensures c.perturbed-params.ensures _ _ _ c.in_err-residuals_into.ensures)
 
 pub slice_bounds-column-end : goal.slice_bounds-column-end
 slice_bounds-column-end c = omega (arith, c.requires.1.few)
@@ -35,5 +37,5 @@ put_column-requires c =
 pub returns : goal.returns
 returns c =
     let pre = c.requires in
-    column_put (eps_of _) (residuals _ _ _) _ _ _ _ _ _ _ _ c.param_eps-eps.ensures c.perturbed-params.ensures c.residuals_into-refusal.result _ _ _ c.if-refusal-ne0.false
-    c.residuals_into-refusal.ensures pre.2 c.put_column.ensures
+    column_put (eps_of _) (residuals _ _ _) _ _ _ _ _ _ _ _ c.param_eps-eps.ensures c.perturbed-params.ensures _ _ _ _
+    c.in_ok-residuals_into.ensures pre.2 c.put_column.ensures

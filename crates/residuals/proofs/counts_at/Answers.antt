@@ -1,6 +1,9 @@
 -- `counts_at` meets its contract: what is written, then the counts still to come, are all. Assumes nothing.
 use mathlib.Core.Path.{refl}
 use native.Mathlib.Omega.{arith}
+use mir.Syntax.{w64}
+use mir.ValLaws.{to_z-of_z}
+use lib.ListN.{length-set}
 use borrow.Author.Rules.{rules}
 use Rattle.residuals.proofs.Samples.{none_counted, one_counted, all_counted}
 use Rattle.residuals.proofs.counts_at.Goals as goal
@@ -10,7 +13,7 @@ loop-k-init c = (search rules, refl, none_counted _ _)
 
 pub loop-k-preserved : goal.loop-k-preserved
 loop-k-preserved c =
-    (search rules, search rules, one_counted c.loop-k-test.true (omega (arith, c.loop-k.invariant.1, c.loop-k-test.true, c.requires.1)) c.loop-k.invariant.2 _ c.put_count.ensures)
+    (search rules, simp length-set c.loop-k.invariant.1, one_counted c.loop-k-test.true (omega (arith, c.loop-k.invariant.1, c.loop-k-test.true, c.requires.1)) c.loop-k.invariant.2 _ (rw (to_z-of_z w64 _ (record { sfits = c.t-1.given })) at c.count_at.ensures))
 
 pub returns : goal.returns
 returns c = all_counted c.loop-k.invariant.0 c.loop-k-test.false c.loop-k.invariant.2

@@ -7,14 +7,10 @@ use lib.Ieee.{Float}
 use Rattle.residuals.specs.Residuals.{drift_penalties}
 use Rattle.residuals.proofs.drift_penalties.Given as goal
 
-pub record Inv (passes : ℕ) (out₀ : List Float) (at : ℕ) (x : List Float) (out : List Float) (p k : ℕ) : Type 0 where
+pub record Inv (passes : ℕ) (out₀ : List Float) (at : ℕ) (x : List Float) (out : List Float) (p : ℕ) : Type 0 where
   pub within : p ≤ passes
-  pub place : k ≡ at + 2 * p
   pub same : length out ≡ length out₀
-  pub whole : take k out ++ drift_penalties x p (passes - p) ≡ take at out₀ ++ drift_penalties x 0 passes
+  pub whole : take (at + 2 * p) out ++ drift_penalties x p (passes - p) ≡ take at out₀ ++ drift_penalties x 0 passes
 
 abbrev pub invariant-loop-p : goal.invariant-loop-p
-invariant-loop-p l = Inv l.passes l.initial.out l.at l.x l.out l.p l.k
-
-abbrev pub decreases-loop-p : goal.decreases-loop-p
-decreases-loop-p l = l.passes - l.p
+invariant-loop-p l = Inv l.passes l.initial.out l.at l.x l.out l.p

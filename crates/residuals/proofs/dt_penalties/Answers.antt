@@ -21,7 +21,7 @@ loop-p-preserved c =
       whole =
           rw (← add_assoc)
           (stored c.loop-p.out (args.at + c.loop-p.p) _ _ (omega arith)
-          ∙ ap (take (args.at + c.loop-p.p) c.loop-p.out ++◌) (sym (dt_next args.second args.x c.loop-p.p args.passes _ c.dt_of-dt.ensures c.loop-p-test.true))
+          ∙ ap (take (args.at + c.loop-p.p) c.loop-p.out ++◌) (sym (dt_next args.second args.x c.loop-p.p args.passes _ c.dt_of.ensures c.loop-p-test.true))
           ∙ c.loop-p.invariant.whole);
     }
 

@@ -15,6 +15,3 @@ pub record Inv (second : Bool) (passes : ℕ) (out₀ : List Float) (at : ℕ) (
 
 abbrev pub invariant-loop-p : goal.invariant-loop-p
 invariant-loop-p l = Inv l.second l.passes l.initial.out l.at l.x l.out l.p
-
-abbrev pub decreases-loop-p : goal.decreases-loop-p
-decreases-loop-p l = l.passes - l.p

@@ -1,12 +1,9 @@
 -- `rotations` meets its contract. Assumes nothing.
 use mathlib.Core.Path.{◌≡◌}
-use Prim.Native.Nat.{◌-◌, ◌≤◌}
+use Prim.Native.Nat.{◌≤◌}
 use lib.ListN.{length}
 use Rattle.residuals.proofs.Samples.{Written}
 use Rattle.residuals.proofs.rotations.Given as goal
 
 abbrev pub invariant-loop-k : goal.invariant-loop-k
 invariant-loop-k l = (l.k ≤ length l.times) × (length l.turns ≡ length l.initial.turns) × Written l.times l.initial.turns l.k l.turns
-
-abbrev pub decreases-loop-k : goal.decreases-loop-k
-decreases-loop-k l = length l.times - l.k

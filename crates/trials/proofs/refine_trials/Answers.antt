@@ -34,7 +34,7 @@ follow-f-requires c =
       record { samples = c.requires.0.samples; table = rw c.loop-n.invariant.1 c.requires.0.table },
       record {
         room = omega (arith, c.requires.0.samples.few, c.requires.0.samples.small, c.trial-t.auto.r);
-        held = λ k. kept_held a.w.second a.w.station (passes_of a.counts.now a.times.now a.freqs.now) _ _ _ _ c.trial-t.ensures (sym c.in-Value.is) k;
+        held = λ k. kept_held a.w.second a.w.station (passes_of a.counts.now a.times.now a.freqs.now) _ _ _ _ c.trial-t.ensures (sym c.in-Ok.is) k;
       },
     )
 
@@ -44,7 +44,7 @@ loop-n-smaller c = omega (arith, c.loop-n-test.true)
 pub loop-n-preserved : goal.loop-n-preserved
 loop-n-preserved c =
     let a = c.args in (
-      goes_on _ _ _ _ _ _ _ _ _ c.loop-n.invariant.0 c.loop-n-test.true c.requires.1 _ c.trial-t.ensures.after _ (summed a.w.second a.w.station (passes_of a.counts.now a.times.now a.freqs.now) c.loop-n.s.params _ _ _ c.trial-t.ensures.summed (sym c.in-Value.is)) _ c.in-Running.is c.follow-f.ensures.arrives
+      goes_on _ _ _ _ _ _ _ _ _ c.loop-n.invariant.0 c.loop-n-test.true c.requires.1 _ c.trial-t.ensures.after _ (summed a.w.second a.w.station (passes_of a.counts.now a.times.now a.freqs.now) c.loop-n.s.params _ _ _ c.trial-t.ensures.summed (sym c.in-Ok.is)) _ c.in-Running.is c.follow-f.ensures.arrives
           (goes_large _ _ _ c.follow-f.ensures.arrives _ c.in-Next.is c.if-size.false),
       c.follow-f.auto.scratch ∙ c.loop-n.invariant.1,
       c.follow-f.ensures.behind ∙ c.loop-n.invariant.2,
@@ -66,7 +66,7 @@ pub returns-in_default-e : goal.returns-in_default-e
 returns-in_default-e c =
     let a = c.args in
     record {
-      runs = rw (started _ _ c.open-s.ensures) at (stops_tried _ _ _ _ _ _ _ _ _ c.loop-n.invariant.0 c.loop-n-test.true c.requires.1 _ c.trial-t.ensures.after _ (summed a.w.second a.w.station (passes_of a.counts.now a.times.now a.freqs.now) c.loop-n.s.params _ _ _ c.trial-t.ensures.summed (sym c.in-Value.is)) (ended_of _ c.in_default-e.not-Running));
+      runs = rw (started _ _ c.open-s.ensures) at (stops_tried _ _ _ _ _ _ _ _ _ c.loop-n.invariant.0 c.loop-n-test.true c.requires.1 _ c.trial-t.ensures.after _ (summed a.w.second a.w.station (passes_of a.counts.now a.times.now a.freqs.now) c.loop-n.s.params _ _ _ c.trial-t.ensures.summed (sym c.in-Ok.is)) (ended_of _ c.in_default-e.not-Running));
       behind = c.loop-n.invariant.2;
     }
 
@@ -80,7 +80,7 @@ pub returns-in_default-step : goal.returns-in_default-step
 returns-in_default-step c =
     let a = c.args in
     record {
-      runs = rw (started _ _ c.open-s.ensures) at (stops_followed _ _ _ _ _ _ _ _ _ c.loop-n.invariant.0 c.loop-n-test.true c.requires.1 _ c.trial-t.ensures.after _ (summed a.w.second a.w.station (passes_of a.counts.now a.times.now a.freqs.now) c.loop-n.s.params _ _ _ c.trial-t.ensures.summed (sym c.in-Value.is)) _ c.in-Running.is c.follow-f.ensures.arrives
+      runs = rw (started _ _ c.open-s.ensures) at (stops_followed _ _ _ _ _ _ _ _ _ c.loop-n.invariant.0 c.loop-n-test.true c.requires.1 _ c.trial-t.ensures.after _ (summed a.w.second a.w.station (passes_of a.counts.now a.times.now a.freqs.now) c.loop-n.s.params _ _ _ c.trial-t.ensures.summed (sym c.in-Ok.is)) _ c.in-Running.is c.follow-f.ensures.arrives
           (stops_other _ _ _ c.follow-f.ensures.arrives (stops_of _ c.in_default-step.not-Next)));
       behind = c.follow-f.ensures.behind ∙ c.loop-n.invariant.2;
     }
@@ -95,7 +95,7 @@ pub returns-then-size : goal.returns-then-size
 returns-then-size c =
     let a = c.args in
     record {
-      runs = rw (started _ _ c.open-s.ensures) at (stops_followed _ _ _ _ _ _ _ _ _ c.loop-n.invariant.0 c.loop-n-test.true c.requires.1 _ c.trial-t.ensures.after _ (summed a.w.second a.w.station (passes_of a.counts.now a.times.now a.freqs.now) c.loop-n.s.params _ _ _ c.trial-t.ensures.summed (sym c.in-Value.is)) _ c.in-Running.is c.follow-f.ensures.arrives
+      runs = rw (started _ _ c.open-s.ensures) at (stops_followed _ _ _ _ _ _ _ _ _ c.loop-n.invariant.0 c.loop-n-test.true c.requires.1 _ c.trial-t.ensures.after _ (summed a.w.second a.w.station (passes_of a.counts.now a.times.now a.freqs.now) c.loop-n.s.params _ _ _ c.trial-t.ensures.summed (sym c.in-Ok.is)) _ c.in-Running.is c.follow-f.ensures.arrives
           (stops_small _ _ _ c.follow-f.ensures.arrives _ c.in-Next.is c.if-size.true));
       behind = c.follow-f.ensures.behind ∙ c.loop-n.invariant.2;
     }
