@@ -1,7 +1,6 @@
 // Elimination.
 ghost use Rattle.exports.specs.Systems.{SolvesTo};
 
-
 #[unsafe(no_mangle)]
 pub extern "C" fn wisvalom_solve_linear_system(
     matrix: &[f64],
