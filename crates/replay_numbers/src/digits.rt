@@ -8,13 +8,6 @@ fn same_draw(answer: &[u8], d: Draw) -> bool {
     answer_lines::field(answer, 0) == next.state && answer_lines::float_is(answer, 1, d.value)
 }
 
-fn same_mapped(answer: &[u8], a: Result<f64, Refusal>) -> bool {
-    match a {
-        Ok(x) => crate::given(answer, x),
-        Err(r) => answer_lines::refused(answer, r.number()),
-    }
-}
-
 fn same_inverse(answer: &[u8], a: Result<u64, Refusal>) -> bool {
     match a {
         Ok(v) => answer_lines::refused(answer, 0) && answer_lines::field(answer, 1) == v,
@@ -58,14 +51,14 @@ pub(crate) fn agrees(line: &[u8]) -> bool {
         return same_draw(answer, SimpleRng::new(first).next_gaussian());
     }
     if answer_lines::begins_with(line, b"monna ") {
-        return same_mapped(answer, monna::monna_map(first, second));
+        return crate::same_number(answer, monna::monna_map(first, second));
     }
     if answer_lines::begins_with(line, b"unmonna ") {
         let x = answer_lines::hex::float(first);
         return same_inverse(answer, monna::inverse_monna_map(x, second, third as usize));
     }
     if answer_lines::begins_with(line, b"padic ") {
-        return same_mapped(answer, monna::p_adic_distance(first, second, third));
+        return crate::same_number(answer, monna::p_adic_distance(first, second, third));
     }
     if answer_lines::begins_with(line, b"history ") {
         return history(asked, answer);

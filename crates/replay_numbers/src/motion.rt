@@ -1,22 +1,13 @@
 // Dates, rotation of the Earth, motion and frequencies.
 use frame::State;
 use orbit::doppler::DfPoly;
-use refusal::Refusal;
 
 fn same_state(fields: &[u8], s: State) -> bool {
     answer_lines::elements_are(fields, &[s.x, s.y, s.z, s.vx, s.vy, s.vz])
 }
 
-// The answer is this number, or this refusal.
-fn same_number(answer: &[u8], a: Result<f64, Refusal>) -> bool {
-    match a {
-        Ok(x) => crate::given(answer, x),
-        Err(r) => answer_lines::refused(answer, r.number()),
-    }
-}
-
 fn jd(asked: &[u8], answer: &[u8]) -> bool {
-    same_number(answer, frame::datetime_to_jd(answer_lines::moment(asked)))
+    crate::same_number(answer, frame::datetime_to_jd(answer_lines::moment(asked)))
 }
 
 fn teme(asked: &[u8], answer: &[u8]) -> bool {
@@ -62,7 +53,7 @@ fn pred(asked: &[u8], answer: &[u8]) -> bool {
         answer_lines::float(asked, 10),
         answer_lines::vec3(answer_lines::from(asked, 11)),
     );
-    same_number(answer, a)
+    crate::same_number(answer, a)
 }
 
 fn poly(asked: &[u8], answer: &[u8]) -> bool {
@@ -83,7 +74,7 @@ fn poly(asked: &[u8], answer: &[u8]) -> bool {
         answer_lines::float(asked, 14),
         answer_lines::vec3(answer_lines::from(asked, 15)),
     );
-    same_number(answer, a)
+    crate::same_number(answer, a)
 }
 
 pub(crate) fn agrees(line: &[u8]) -> bool {
