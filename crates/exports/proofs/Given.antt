@@ -1,12 +1,9 @@
 -- A signed number comes out of a record as it went in, so a call's answer is that of the moments as they were given. Assumes nothing.
 use mathlib.Core.Path.{◌≡◌, ap, ◌∙◌}
 use Prim.Native.Nat.{ℕ}
-use mathlib.Core.List.{List, ◌∷◌, []}
 use lib.IntN.{ℤ}
 use lib.Ieee.{Float}
-use Rattle.frame.specs.Julian.{datetime_to_jd_of}
 use Rattle.frame.specs.declared.Vec3.{Vec3}
-use Rattle.orbit.specs.Orbit.{propagate_ecef_of}
 use Rattle.orbit.specs.Doppler.{predict_frequency_of, predict_frequency_poly_of}
 use Rattle.orbit.specs.declared.doppler.DfPoly.{DfPoly}
 use Rattle.exports.specs.Answers.{moment}
@@ -25,10 +22,3 @@ poly_predicted a i raan u s s' n t t' m dt d b b' l centre p h k g =
     ap (λ v. predict_frequency_poly_of a i raan u (moment v n) (moment t' m) dt d (moment b' l) centre p) h
     ∙ ap (λ v. predict_frequency_poly_of a i raan u (moment s n) (moment v m) dt d (moment b' l) centre p) k
     ∙ ap (λ v. predict_frequency_poly_of a i raan u (moment s n) (moment t m) dt d (moment v l) centre p) g
-
-pub propagated : (a i raan u : Float) (s s' : ℤ) (n : ℕ) (t t' : ℤ) (m : ℕ) (b b' : ℤ) (l : ℕ) → s' ≡ s → t' ≡ t → b' ≡ b
-    → propagate_ecef_of a i raan u (moment s' n) (moment t' m) (moment b' l) ≡ propagate_ecef_of a i raan u (moment s n) (moment t m) (moment b l)
-propagated a i raan u s s' n t t' m b b' l h k g =
-    ap (λ v. propagate_ecef_of a i raan u (moment v n) (moment t' m) (moment b' l)) h
-    ∙ ap (λ v. propagate_ecef_of a i raan u (moment s n) (moment v m) (moment b' l)) k
-    ∙ ap (λ v. propagate_ecef_of a i raan u (moment s n) (moment t m) (moment v l)) g
