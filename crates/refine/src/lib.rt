@@ -30,16 +30,11 @@ fn bias_eps(j: usize) -> f64
 fn param_eps(second: bool, k: usize) -> f64
     ensures { result ≡ eps_of second k }
 {
-    if k == 0 {
-        return 10.0;
-    }
-    if k < 4 {
-        return 1e-6;
-    }
-    if second {
-        bias_eps((k - 4) % 4)
-    } else {
-        bias_eps((k - 4) % 2)
+    match k {
+        0 => 10.0,
+        1..=3 => 1e-6,
+        _ if second => bias_eps((k - 4) % 4),
+        _ => bias_eps((k - 4) % 2),
     }
 }
 

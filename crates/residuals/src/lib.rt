@@ -291,10 +291,9 @@ pub fn residuals_into(
     let n = times.len();
     let m = counts.len();
     dt_penalties(second, x, m, out, n);
-    if !second {
-        return Ok(());
+    if second {
+        drift_penalties(x, m, out, n + m);
     }
-    drift_penalties(x, m, out, n + m);
     Ok(())
 }
 

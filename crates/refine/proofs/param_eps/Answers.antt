@@ -1,20 +1,27 @@
 -- `param_eps` meets its contract. Assumes nothing.
+use native.Mathlib.Omega.{arith}
 use Rattle.refine.specs.Jacobian.{a_eps_bits, micro_bits, eps_of}
-use borrow.Author.Tests.{eq-eqb, le-ltb, lt-ltb, ne_eqb}
+use borrow.Author.Tests.{le-ltb, lt-ltb, ne_eqb}
 use Rattle.refine.proofs.param_eps.Goals as goal
 
-pub returns-then-k-eq0 : goal.returns-then-k-eq0
+pub returns-in-0 : goal.returns-in-0
 unfolding eps_of
-returns-then-k-eq0 c = rw (eq-eqb _ _ c.if-k-eq0.true) a_eps_bits
+returns-in-0 c = rw c.in-0.is a_eps_bits
 
-pub returns-then-k-lt4 : goal.returns-then-k-lt4
+pub returns-in-1-to-3 : goal.returns-in-1-to-3
 unfolding eps_of
-returns-then-k-lt4 c = rw (ne_eqb _ _ c.if-k-eq0.false, lt-ltb _ _ c.if-k-lt4.true) micro_bits
+returns-in-1-to-3 c =
+    let k = c.args.k in
+    rw (ne_eqb k 0 (λ q. omega arith), lt-ltb k 4 (omega arith)) micro_bits
 
-pub returns-then-second : goal.returns-then-second
+pub returns-in_default : goal.returns-in_default
 unfolding eps_of
-returns-then-second c = rw (ne_eqb _ _ c.if-k-eq0.false, le-ltb _ _ c.if-k-lt4.false, c.if-second.true, c.bias_eps.ensures)
+returns-in_default c =
+    let k = c.args.k in
+    rw (ne_eqb k 0 (λ q. omega arith), le-ltb k 4 (omega arith), c.if-second.true, c.bias_eps.ensures)
 
-pub returns-else-second : goal.returns-else-second
+pub returns-in_default-2 : goal.returns-in_default-2
 unfolding eps_of
-returns-else-second c = rw (ne_eqb _ _ c.if-k-eq0.false, le-ltb _ _ c.if-k-lt4.false, c.if-second.false, c.bias_eps-else-second.ensures)
+returns-in_default-2 c =
+    let k = c.args.k in
+    rw (ne_eqb k 0 (λ q. omega arith), le-ltb k 4 (omega arith), c.if-second.false, c.bias_eps-in_default-2.ensures)

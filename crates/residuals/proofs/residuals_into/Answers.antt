@@ -9,10 +9,10 @@ returns-in_err-sample_residuals c =
     let p = err_from_is_err_and c.from_residual.result c.from_residual.ensures.1 in
     rw (p.1, p.2) (residuals_far _ _ _ _ _ _ _ c.in_err-sample_residuals.ensures)
 
-pub returns-then-not-second : goal.returns-then-not-second
-returns-then-not-second c =
-    first_written _ _ _ _ _ _ _ _ _ c.in_ok-sample_residuals.ensures refl c.dt_penalties.ensures (c.if-not-second.true)
+pub returns-else-second : goal.returns-else-second
+returns-else-second c =
+    first_written _ _ _ _ _ _ _ _ _ c.in_ok-sample_residuals.ensures refl c.dt_penalties.ensures c.if-second.false
 
-pub returns : goal.returns
-returns c =
-    second_written _ _ _ _ _ _ _ _ _ c.in_ok-sample_residuals.ensures refl c.dt_penalties.ensures _ (c.if-not-second.false) c.drift_penalties.ensures
+pub returns-then-second : goal.returns-then-second
+returns-then-second c =
+    second_written _ _ _ _ _ _ _ _ _ c.in_ok-sample_residuals.ensures refl c.dt_penalties.ensures _ c.if-second.true c.drift_penalties.ensures
