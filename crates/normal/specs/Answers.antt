@@ -1,9 +1,9 @@
 -- What the answers of the code mean.
 use Rattle.std.specs.Prelude.{List, Float}
-use Rattle.refusal.specs.Numbers as refusal
+use Rattle.refusal.specs.Refusals.{number_of}
 use Rattle.normal.specs.Step.{Outcome, next, short, refused}
 use Rattle.normal.specs.declared.Step.{Step}
-use Rattle.normal.specs.declared.Step.TheVariants.{Next, Short, Singular, Refused}
+use Rattle.normal.specs.declared.Step.TheVariants.{Next, Short, Refused}
 use Rattle.normal.specs.declared.Stepped.{Stepped}
 
 -- each case of a step's answer, with document 01's number where it is a refusal, and its values where it is none: the set x that
@@ -11,8 +11,7 @@ use Rattle.normal.specs.declared.Stepped.{Stepped}
 abbrev pub outcome : Step → List Float → Outcome
 outcome (Next size) x = next x size
 outcome Short x = short
-outcome Singular x = refused refusal.small_pivot
-outcome (Refused k) x = refused k
+outcome (Refused r) x = refused (number_of r)
 
 abbrev pub outcome_of : Stepped → Outcome
 outcome_of r = outcome r.step r.params

@@ -33,6 +33,7 @@ ghost use Rattle.normal.specs.Step.{
 };
 ghost use Rattle.normal.specs.Answers.{outcome, outcome_of};
 
+use refusal::Refusal;
 use residuals::PARAMS;
 
 // Places of the elimination of so many parameters.
@@ -277,14 +278,13 @@ fn take_step(delta: &[f64], n: usize, x: &mut [f64]) -> f64
     largest_step(x, delta, n)
 }
 
-// Where a step leads: to the next set, with the step's size; nowhere, for want of residuals, which the caller tests; nowhere, by the
-// solver's refusal 22; or to the refusal of this number, which the residuals gave.
+// Where a step leads: to the next set, with the step's size; nowhere, for want of residuals, which the caller tests; or nowhere, by a
+// refusal: the solver's 22, or 23, which the residuals gave.
 #[derive(Clone, Copy)]
 pub enum Step {
     Next(f64),
     Short,
-    Singular,
-    Refused(u32),
+    Refused(Refusal),
 }
 
 // The system a δ = v solved, and x moved by the solution; in the second refinement it is divided by the scales f.
@@ -302,7 +302,7 @@ fn move_by(
     ensures { outcome result x.new ≡ finish second n f.now x.old (solution_of n a.now v.now) }
 {
     let Ok(()) = linear::solve_linear_system(a, v, n, delta, room) else {
-        return Step::Singular;
+        return Step::Refused(Refusal::SmallPivot);
     };
     if second {
         divide(delta, f, n);

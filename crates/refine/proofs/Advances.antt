@@ -91,11 +91,11 @@ module _ (second : Bool) (g : Station) (d : Passes) (turns x r : List Float) (ro
   behind u s s' l e = rw (← en, ← ready.rows, e) (drop_at u (drop (length r * n) s) (length r * n) l)
 
   module _ (lambda : Float) (t u : List Float) (l : length t ≡ length r * n) where
-    pub advance_far : (e : Refusal) (k : ℕ) → Filled (Err e) u (try 0 n (column_of (eps_of second) (residuals second g d) x r (length r) n) t) → k ≡ number_of e → refused k ≡ advance_of second g d lambda x
+    pub advance_far : (e : Refusal) → Filled (Err e) u (try 0 n (column_of (eps_of second) (residuals second g d) x r (length r) n) t) → refused (number_of e) ≡ advance_of second g d lambda x
     unfolding advance_of
-    advance_far e k made q =
+    advance_far e made =
         rw (← en, table_far (eps_of second) (residuals second g d) x r (length r) n ready.known e t u l made)
-        (ap refused (q ∙ ap number_of (refused_far made)))
+        (ap (λ (r : Refusal). refused (number_of r)) (refused_far made))
 
     -- s is the scratch with the table at its front
     pub advance_done : (y : ⊤) (s rest : List Float) (w : Outcome) → Filled (Ok y) u (try 0 n (column_of (eps_of second) (residuals second g d) x r (length r) n) t) → s ≡ u ++ rest

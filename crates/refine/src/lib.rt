@@ -142,7 +142,7 @@ pub fn advance(
     let cells = r.len() * n;
     if let Err(far) = jacobian(p, counts, times, freqs, turns, r, n, &mut scratch[..cells]) {
         return Stepped {
-            step: Step::Refused(far.number()),
+            step: Step::Refused(far),
             params,
         };
     }

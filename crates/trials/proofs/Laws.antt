@@ -25,7 +25,7 @@ use Rattle.residuals.proofs.Laws.{refused_far}
 use Rattle.normal.specs.Step.{Outcome, next, short, refused}
 use Rattle.normal.specs.Answers.{outcome}
 use Rattle.normal.specs.declared.Step.{Step}
-use Rattle.normal.specs.declared.Step.TheVariants.{Next, Short, Singular, Refused as RefusedStep}
+use Rattle.normal.specs.declared.Step.TheVariants.{Next, Short, Refused as RefusedStep}
 use Rattle.refine.specs.Advance.{advance_of, cells_of}
 use Rattle.book.specs.Book.{ten_bits, most_damping_bits, small_step_bits, Search, After, judged, arrival, onward, Book, far_refusal}
 use Rattle.book.specs.declared.Ending.{Ending}
@@ -75,11 +75,11 @@ module _ (second : Bool) (g : Station) (d : Passes) (x : List Float) where
     abbrev goal : Outcome
     goal = onward (penalised_sum second g d) (advance_of second g d) enough s
 
-    pub onward_far : (e : Refusal) (k : ℕ) (xs : List Float) → Filled (Err e) xs (residuals second g d x) → k ≡ number_of e → refused k ≡ goal
+    pub onward_far : (e : Refusal) (xs : List Float) → Filled (Err e) xs (residuals second g d x) → refused (number_of e) ≡ goal
     unfolding onward penalised_sum
-    onward_far e k xs f q =
+    onward_far e xs f =
         let z : none ≡ residuals second g d x = f.written in
-        rw (here, ← z) (ap refused (q ∙ ap number_of (refused_far f)))
+        rw (here, ← z) (ap (λ (r : Refusal). refused (number_of r)) (refused_far f))
 
     pub onward_short : (xs : List Float) → some xs ≡ residuals second g d x → enough ≡ false → short ≡ goal
     unfolding onward penalised_sum
@@ -120,7 +120,6 @@ module _ (second : Bool) (g : Station) (d : Passes) (s : Search) (r : List Float
 arrives_by : (s : Search) (x : List Float) (p : Step) (t : State) → state_after t ≡ arrival s (outcome p x) → Arrives s (outcome p x) (record { step = p; state = t })
 arrives_by s x (Next size) t e = record { step = ap (λ (a : After). next a.search.next size) e; after = e }
 arrives_by s x Short t e = record { step = refl; after = e }
-arrives_by s x Singular t e = record { step = refl; after = e }
 arrives_by s x (RefusedStep k) t e = record { step = refl; after = e }
 
 pub arrives : (s : Search) (x : List Float) (p q : Step) (t : State) → q ≡ p → state_after t ≡ arrival s (outcome q x) → Arrives s (outcome p x) (record { step = q; state = t })

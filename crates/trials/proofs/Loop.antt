@@ -8,10 +8,11 @@ use native.Mathlib.Omega.{arith}
 use lib.ListN.{length, set, length-set}
 use lib.Ieee.{Float, lt}
 use Rattle.float.specs.Ops.{bits}
+use Rattle.refusal.specs.declared.Refusal.{Refusal}
 use Rattle.normal.specs.Step.{Outcome, next}
 use Rattle.normal.specs.Answers.{outcome}
 use Rattle.normal.specs.declared.Step.{Step}
-use Rattle.normal.specs.declared.Step.TheVariants.{Next, Short, Singular, Refused}
+use Rattle.normal.specs.declared.Step.TheVariants.{Next, Short, Refused}
 use Rattle.book.specs.Book.{small_step_bits, Search, Book, After, compared, arrival, onward, open_book, gone_to, noted, trial, following, book}
 use Rattle.book.specs.declared.Ending.{Ending}
 use Rattle.book.specs.declared.Ending.TheVariants as Ends
@@ -29,14 +30,12 @@ book_after b = record { search = b.search; ended = b.ended }
 
 pub data Stops : Step → Type 0 where
   at_short : Stops Short
-  at_pivot : Stops Singular
-  at_refusal : {k : ℕ} → Stops (Refused k)
+  at_refusal : {r : Refusal} → Stops (Refused r)
 
 -- whichever arm of a `let .. else` is left
 pub stops_of : (p : Step) → ((size : Float) → p ≡ Next size → ⊥) → Stops p
 stops_of (Next size) h = absurd (h size refl)
 stops_of Short h = at_short
-stops_of Singular h = at_pivot
 stops_of (Refused k) h = at_refusal
 
 pub ended_of : (g : Ending) → (g ≡ Running → ⊥) → Ended g
@@ -49,7 +48,6 @@ ended_of Ends.Converged h = by_convergence
 stopped : (p : Step) (x : List Float) (s : Search) → Stops p → Ended (arrival s (outcome p x)).ended
 stopped (Next _) x s h = elim h [ ]
 stopped Short x s at_short = by_shortness
-stopped Singular x s at_pivot = by_refusal
 stopped (Refused k) x s at_refusal = by_refusal
 
 module _ (sum : List Float → Option Float) (step : Float → List Float → Outcome) (enough : Bool) (most : ℕ) (x old : List Float) where

@@ -198,12 +198,8 @@ fn arrive(s: State, params: [f64; PARAMS], step: Step) -> Followed
             let state = end(s, Ending::Short);
             Followed { step, state }
         }
-        Step::Singular => {
-            let state = end(s, Ending::Refused(refusal::SMALL_PIVOT));
-            Followed { step, state }
-        }
-        Step::Refused(number) => {
-            let state = end(s, Ending::Refused(number));
+        Step::Refused(r) => {
+            let state = end(s, Ending::Refused(r.number()));
             Followed { step, state }
         }
     }
@@ -261,7 +257,7 @@ pub fn follow(
         params,
     };
     if let Err(far) = at_hand(p, known, counts, times, freqs, turns, r) {
-        return arrive(s, params, Step::Refused(far.number()));
+        return arrive(s, params, Step::Refused(far));
     }
     if !enough {
         return arrive(s, params, Step::Short);

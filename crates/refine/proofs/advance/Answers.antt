@@ -32,7 +32,7 @@ returns-in-Err c =
     let pre = c.requires in
     let en = c.place_of-n.ensures.0 in
     record {
-      outcome = advance_far _ _ _ _ _ _ _ _ pre en _ _ _ (length-take-le _ _ (cells_fit _ _ _ _ _ _ _ _ pre en)) _ _ c.in-Err.ensures c.number.ensures;
+      outcome = advance_far _ _ _ _ _ _ _ _ pre en _ _ _ (length-take-le _ _ (cells_fit _ _ _ _ _ _ _ _ pre en)) _ c.in-Err.ensures;
       behind = behind _ _ _ _ _ _ _ _ pre en c.jacobian.new.table c.args.scratch.now _ (c.jacobian.auto.table ∙ length-take-le _ _ (cells_fit _ _ _ _ _ _ _ _ pre en)) refl;
     }
 

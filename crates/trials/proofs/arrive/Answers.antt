@@ -17,12 +17,7 @@ returns-in-Short c =
     let a = c.args in
     arrives (state_search a.s) a.params a.step a.step _ refl (c.end-state.ensures ∙ ap (λ (p : Step). arrival (state_search a.s) (outcome p a.params)) (sym c.in-Short.is))
 
-pub returns-in-Singular : goal.returns-in-Singular
-returns-in-Singular c =
-    let a = c.args in
-    arrives (state_search a.s) a.params a.step a.step _ refl (c.end-state-in-Singular.ensures ∙ ap (λ (p : Step). arrival (state_search a.s) (outcome p a.params)) (sym c.in-Singular.is))
-
 pub returns-in-Refused : goal.returns-in-Refused
 returns-in-Refused c =
     let a = c.args in
-    arrives (state_search a.s) a.params a.step _ _ (sym c.in-Refused.is) c.end-state-in-Refused.ensures
+    arrives (state_search a.s) a.params a.step _ _ (sym c.in-Refused.is) (rw c.number.ensures at c.end-state-in-Refused.ensures)

@@ -10,7 +10,7 @@ pub returns-in-Err : goal.returns-in-Err
 returns-in-Err c =
     let a = c.args in
     follows a.w.second a.w.station (passes_of a.counts.now a.times.now a.freqs.now) a.t.state.params a.w.enough (state_search a.t.state) refl _ _ _ _ _ _ c.in-Err.ensures
-    (onward_far a.w.second a.w.station (passes_of a.counts.now a.times.now a.freqs.now) a.t.state.params a.w.enough (state_search a.t.state) refl _ _ _ c.in-Err.ensures c.number.ensures) c.arrive.ensures refl
+    (onward_far a.w.second a.w.station (passes_of a.counts.now a.times.now a.freqs.now) a.t.state.params a.w.enough (state_search a.t.state) refl _ _ c.in-Err.ensures) c.arrive.ensures refl
 
 pub returns-then-not-enough : goal.returns-then-not-enough
 returns-then-not-enough c =
