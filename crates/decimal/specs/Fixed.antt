@@ -34,5 +34,4 @@ fits v p w at n = within v && (leb p 8 && (leb (p + 2) w && (leb w 16 && (leb at
 
 -- v prints with p places, 8 at most, in w columns from `at` of a slice of n bytes: no digit is cut off, and the columns are there
 unfoldable pub printable : Float → ℕ → ℕ → ℕ → ℕ → Bool
-printable v p w at n =
-    within v && (leb p 8 && (leb (p + 2) w && (leb w 16 && (leb at n && (leb w (n - at) && ltb (nearest_units p v) (10 ^ (w - 1)))))))
+printable v p w at n = fits v p w at n && ltb (nearest_units p v) (10 ^ (w - 1))

@@ -1,4 +1,4 @@
--- What the tests of `instant_of` say. Assumes nothing.
+-- What the tests of a moment that becomes an instant say. Assumes nothing.
 use Rattle.std.proofs.Common.{◌≡◌, ℕ, ◌<◌, ◌≤◌, Bool, true, false, not, ◌&&◌, [], ◌∷◌, Ok, Err, ltb, leb, ℤ, sym, refl, ap, subst, arith, ltb-true, le-ltb, lt-ltb, le-leb, leb-true}
 use mathlib.Core.Logic.{◌⊎◌, inl, inr}
 use borrow.Author.Tests.{lt-leb}

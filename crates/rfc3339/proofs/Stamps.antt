@@ -14,6 +14,7 @@ use Rattle.rfc3339.specs.Rfc3339.{place_fits, matches, nanos, valid_time, valid_
 use Rattle.moment.specs.Calendar.{leap, month_length}
 use Rattle.moment.proofs.Lengths.{month_most}
 use borrow.Author.Tests.{ltb-true, ltb-false, leb-true, eqb-false}
+use Rattle.laws.proofs.Tests.{false_behind}
 
 -- a pattern and a text of its length or more, byte by byte
 pub matches_is : (p l : List ℕ) → length p ≤ length l → matches p l ≡ list_all (λ (q : ℕ × ℕ). place_fits q.0 q.1) (zip p l)
@@ -26,11 +27,7 @@ pub matches_short : (p l : List ℕ) → length l < length p → matches p l ≡
 unfolding matches
 matches_short [] l h = absurd (omega arith)
 matches_short (p ∷ ps) [] h = refl
-matches_short (p ∷ ps) (c ∷ l) h = ap (λ (r : Bool). place_fits p c && r) (matches_short ps l (omega arith)) ∙ and_false (place_fits p c)
-  where
-    and_false : (b : Bool) → (b && false) ≡ false
-    and_false true = refl
-    and_false false = refl
+matches_short (p ∷ ps) (c ∷ l) h = ap (λ (r : Bool). place_fits p c && r) (matches_short ps l (omega arith)) ∙ false_behind (place_fits p c)
 
 -- with at most nine digits and as many zeros as are missing
 pub nanos_kept : (l : List ℕ) (n : ℕ) → nanos l n ≡ with_digits 0 (min n 9) (drop 20 l) * 10 ^ (9 - min n 9)

@@ -52,7 +52,7 @@ up_to m (fin false k e) h w =
 -- it prints with p places in w columns
 pub prints : (v : Float) (p w at m : ℕ) → UpTo m v → p ≤ 8 → p + 2 ≤ w → w ≤ 16 → at ≤ 69 → w ≤ 69 - at → m * 10 ^ p < 10 ^ (w - 1) → T (printable v p w at 69)
 prints v p w at m u a b c d e f =
-    subst T (yes v p w at 69 (u.range, a, b, c, d, e, lt_of_le_of_lt (decimal_le p m v u.size) f)) tt
+    subst T (yes v p w at 69 (u.range, a, b, c, d, e) (lt_of_le_of_lt (decimal_le p m v u.size) f)) tt
 
 -- ---- degrees
 circle_within : (s : Bool) (m : ℕ) (e : ℤ) → Within s 360 1 (fin s m e ⊛ bits 0x4076800000000000)

@@ -1,8 +1,12 @@
 -- `decimal::fixed::put_fixed` meets its contract. Assumes nothing.
-use mathlib.Core.Path.{sym, ◌∙◌}
+use mathlib.Core.Path.{sym, ap, ◌∙◌}
+use mathlib.Core.Bool.{Bool, ◌&&◌}
 use native.Mathlib.Omega.{arith}
 use lib.ListN.{length}
-use Rattle.decimal.proofs.Printable.{Fitting, fitting, unfit, yes, no}
+use borrow.Author.Tests.{le-ltb}
+use Rattle.laws.proofs.Tests.{and_false, false_behind}
+use Rattle.decimal.specs.Fixed.{fits, printable}
+use Rattle.decimal.proofs.Printable.{Fitting, fitting, yes}
 use Rattle.decimal.proofs.fixed.put_fixed.Goals.{Else-not-fits}
 use Rattle.decimal.proofs.fixed.put_fixed.Goals as goal
 
@@ -23,15 +27,18 @@ pub fill-requires : goal.fill-requires
 fill-requires c = let p = passed (goal.at.fill-requires c).Else-not-fits in (omega (arith, p.4, p.5), omega (arith, p.3), p.1)
 
 pub returns-then-not-fits-clause-value : goal.returns-then-not-fits-clause-value
-returns-then-not-fits-clause-value c = no _ _ _ _ _ (unfit _ _ _ _ _ (sym c.fits.ensures ∙ c.if-not-fits.true))
+unfolding printable
+returns-then-not-fits-clause-value c = and_false _ _ (sym c.fits.ensures ∙ c.if-not-fits.true)
 
 pub scaled-n-requires : goal.scaled-n-requires
 scaled-n-requires c = let p = passed (goal.at.scaled-n-requires c).Else-not-fits in (p.0, c.power.ensures, p.1)
 
 pub returns-then-power-n-clause-value : goal.returns-then-power-n-clause-value
-returns-then-power-n-clause-value c = no _ _ _ _ _ (λ f. omega (arith, c.power-2.ensures, c.scaled-n.ensures, c.if-power-n.true, f.6))
+unfolding printable
+returns-then-power-n-clause-value c =
+    let a = c.args in
+    sym (ap (λ (b : Bool). fits a.v a.places a.width a.at (length a.out.now) && b) (le-ltb _ _ (omega (arith, c.power-2.ensures, c.scaled-n.ensures, c.if-power-n.true))) ∙ false_behind _)
 
 pub returns-clause-value : goal.returns-clause-value
 returns-clause-value c =
-    let p = passed (goal.at.returns-clause-value c).Else-not-fits in
-    yes _ _ _ _ _ (p.0, p.1, p.2, p.3, p.4, p.5, omega (arith, c.power-2.ensures, c.scaled-n.ensures, c.if-power-n.false))
+    yes _ _ _ _ _ (passed (goal.at.returns-clause-value c).Else-not-fits) (omega (arith, c.power-2.ensures, c.scaled-n.ensures, c.if-power-n.false))
