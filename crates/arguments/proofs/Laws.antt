@@ -1,26 +1,26 @@
 -- What follows for a fit's work: of the non-empty passes, and of arguments that are not refused. Assumes nothing.
 use mathlib.Core.Path.{◌≡◌, refl, ◌∙◌}
-use mathlib.Core.Bool.{Bool, true, false, not, cond, ◌&&◌, ◌||◌}
+use mathlib.Core.Bool.{Bool, true, false, cond, ◌&&◌, ◌||◌}
 use mathlib.Core.List.{List, [], ◌∷◌}
 use Prim.Native.Nat.{ℕ, zero, suc, ◌+◌, ◌≤◌, ◌<◌}
 use native.Mathlib.Nat.{le_of_suc-le-suc, not-suc-le-zero}
 use native.Mathlib.Omega.{arith}
-use lib.Dec.{eqb, leb, ltb}
+use lib.Dec.{eqb, leb}
 use lib.IntN.{ℤ}
 use lib.ListN.{length, get_or}
 use lib.Ieee.{Float, nan, lt, is_nan}
-use borrow.Author.Tests.{eqb-true, eqb-false, leb-true, ltb-false}
+use borrow.Author.Tests.{eqb-true, eqb-false, leb-true, ltb-false, not-false}
 use Rattle.laws.proofs.Tests.{or_false, and_true}
-use Rattle.refusal.specs.Numbers as refusal
-use Rattle.refusal.specs.Order.{Refusal, first, ◌if◌}
+use Rattle.std.proofs.Common.{None}
+use Rattle.refusal.proofs.Lists.{clear}
 use Rattle.float.specs.Ops.{bits}
 use Rattle.float.specs.Trig.{pi}
 use Rattle.frame.specs.declared.Vec3.{Vec3}
-use Rattle.moment.specs.Sample.{times_in_range}
 use Rattle.moment.proofs.Samples.{timed}
-use Rattle.pass_set.specs.PassSet.{total, sizes_agree, Sizes}
+use Rattle.pass_set.specs.PassSet.{total, Sizes}
 use Rattle.pass_set.proofs.Laws as set
 use Rattle.arguments.specs.Passes.{non_empty}
+use Rattle.arguments.specs.declared.Room.{Room}
 use Rattle.arguments.specs.Refusals.{
   least_a,
   most_a,
@@ -28,7 +28,6 @@ use Rattle.arguments.specs.Refusals.{
   out_of_range,
   any_nan,
   scratch_size,
-  Room,
   enough,
   input_refusals,
   input_refusal_of,
@@ -109,106 +108,19 @@ number_at [] k h e = absurd (not-suc-le-zero h)
 number_at (f ∷ fs) zero h e = (or_false (is_nan f) (any_nan fs) e).0
 number_at (f ∷ fs) (suc k) h e = number_at fs k (le_of_suc-le-suc h) (or_false (is_nan f) (any_nan fs) e).1
 
--- no test of the list holds
-record None (a b c d e f g : Bool) : Type 0 where
-  sizes : a ≡ true
-  moments : b ≡ true
-  numbers : c ≡ false
-  range : d ≡ false
-  frequencies : e ≡ false
-  passes : f ≡ false
-  samples : g ≡ false
-
-none : (a b c d e f g : Bool)
-    → first (
-    (refusal.sizes if not a)
-    ∷ (refusal.moment_range if not b)
-    ∷ (refusal.nan_argument_lem if c)
-    ∷ (refusal.initial_range if d)
-    ∷ (refusal.nan_frequency if e)
-    ∷ (refusal.few_passes if f)
-    ∷ (refusal.few_samples if g)
-    ∷ []
-    ) ≡ 0 → None a b c d e f g
-none false b c d e f g h = absurd (omega (arith, h))
-none true false c d e f g h = absurd (omega (arith, h))
-none true true true d e f g h = absurd (omega (arith, h))
-none true true false true e f g h = absurd (omega (arith, h))
-none true true false false true f g h = absurd (omega (arith, h))
-none true true false false false true g h = absurd (omega (arith, h))
-none true true false false false false true h = absurd (omega (arith, h))
-none true true false false false false false h =
-    record { sizes = refl; moments = refl; numbers = refl; range = refl; frequencies = refl; passes = refl; samples = refl }
-
--- a refusal of the input comes first; without one the rest of the list decides
-then_rest : (a b c d e f g : Bool) (rest : List Refusal) (n : ℕ)
-    → n ≡ first (
-    (refusal.sizes if a)
-    ∷ (refusal.moment_range if b)
-    ∷ (refusal.nan_argument_lem if c)
-    ∷ (refusal.initial_range if d)
-    ∷ (refusal.nan_frequency if e)
-    ∷ (refusal.few_passes if f)
-    ∷ (refusal.few_samples if g)
-    ∷ []
-    )
-    → cond (eqb n 0) (first rest) n ≡ first (
-    (refusal.sizes if a)
-    ∷ (refusal.moment_range if b)
-    ∷ (refusal.nan_argument_lem if c)
-    ∷ (refusal.initial_range if d)
-    ∷ (refusal.nan_frequency if e)
-    ∷ (refusal.few_passes if f)
-    ∷ (refusal.few_samples if g)
-    ∷ rest
-    )
-then_rest true b c d e f g rest n h = rw h
-then_rest false true c d e f g rest n h = rw h
-then_rest false false true d e f g rest n h = rw h
-then_rest false false false true e f g rest n h = rw h
-then_rest false false false false true f g rest n h = rw h
-then_rest false false false false false true g rest n h = rw h
-then_rest false false false false false false true rest n h = rw h
-then_rest false false false false false false false rest n h = rw h
-
 module _ (counts : List ℕ) (times : List ℤ) (freqs centers : List Float) (rec : Vec3) (a i : Float) where
-  pub accepted : input_refusal_of counts times freqs centers rec a i ≡ 0 → InputAccepted counts times freqs centers rec a i
+  pub accepted : input_refusal_of counts times freqs centers rec a i ≡ None → InputAccepted counts times freqs centers rec a i
   unfolding input_refusal_of
   accepted h =
-      let s =
-      none
-      (sizes_agree counts (length times) (length freqs) (length centers))
-      (times_in_range times)
-      (nan_argument rec a i)
-      (out_of_range a i)
-      (any_nan freqs)
-      (ltb (length (non_empty counts)) 2)
-      (ltb (length times) (4 + length (non_empty counts)))
-      h in
+      let s = clear (input_refusals counts times freqs centers rec a i []) h in
       record {
-        sizes = set.sizes s.sizes;
-        timed = timed s.moments;
-        guess = guess rec a i s.numbers s.range;
-        numbers = λ k l. number_at freqs k l s.frequencies;
-        passes = ltb-false (length (non_empty counts)) 2 s.passes;
-        samples = ltb-false (length times) (4 + length (non_empty counts)) s.samples;
+        sizes = set.sizes (not-false _ s.0);
+        timed = timed (not-false _ s.1.0);
+        guess = guess rec a i s.1.1.0 s.1.1.1.0;
+        numbers = λ k l. number_at freqs k l s.1.1.1.1.0;
+        passes = ltb-false (length (non_empty counts)) 2 s.1.1.1.1.1.0;
+        samples = ltb-false (length times) (4 + length (non_empty counts)) s.1.1.1.1.1.1.0;
       }
-
-  pub then : (n : ℕ) (rest : List Refusal) → n ≡ input_refusal_of counts times freqs centers rec a i
-      → cond (eqb n 0) (first rest) n ≡ first (input_refusals counts times freqs centers rec a i rest)
-  unfolding input_refusal_of
-  then n rest h =
-      then_rest
-      (not (sizes_agree counts (length times) (length freqs) (length centers)))
-      (not (times_in_range times))
-      (nan_argument rec a i)
-      (out_of_range a i)
-      (any_nan freqs)
-      (ltb (length (non_empty counts)) 2)
-      (ltb (length times) (4 + length (non_empty counts)))
-      rest
-      n
-      h
 
 pub roomy : (s p : ℕ) (r : Room) → enough s p r ≡ true → Roomy s p r
 unfolding enough

@@ -1,6 +1,7 @@
 -- What the loops over passes and samples ask. Assumes nothing.
 use mathlib.Core.Path.{◌≡◌, refl, sym, ap, ◌∙◌}
-use mathlib.Core.Bool.{true, false, cond, ◌||◌}
+use mathlib.Core.Bool.{Bool, cond, ◌||◌}
+use Rattle.std.specs.List.{list_any}
 use mathlib.Core.List.{List, [], ◌∷◌, ◌++◌, append_assoc, append-nil}
 use Prim.Native.Nat.{ℕ, suc, ◌+◌, ◌≤◌, ◌<◌}
 use native.Mathlib.Numerals.{add-one}
@@ -8,34 +9,18 @@ use native.Mathlib.Omega.{arith}
 use lib.Dec.{eqb}
 use lib.ListN.{length, get_or, take, drop, set, length-set, drop_of_length-le}
 use lib.Seq.{drop-cons, take-suc-set, length-take-le}
-use lib.Ieee.{Float, nan, ne, is_nan}
+use lib.Ieee.{Float, nan, is_nan}
 use borrow.Author.Tests.{eq-eqb, ne_eqb}
 use Rattle.float.specs.Ops.{bits}
-use Rattle.float.proofs.Signs.{nan_test}
 use Rattle.arguments.specs.Passes.{non_empty, center_of, Compacts}
 use Rattle.arguments.specs.Refusals.{any_nan}
 
--- ---- the samples from k on decide whether any is NaN
+-- ---- whether any sample is NaN
 
-pub record NanFrom (fs : List Float) (k : ℕ) : Type 0 where
-  pub rest : any_nan (drop k fs) ≡ any_nan fs
-
-pub nan_first : (fs : List Float) → NanFrom fs 0
-nan_first fs = record { rest = refl }
-
-nan_step : (fs : List Float) (k : ℕ) → k < length fs → any_nan (drop k fs) ≡ (is_nan (get_or fs k nan) || any_nan (drop (k + 1) fs))
+pub nan_any : (fs : List Float) → any_nan fs ≡ list_any is_nan fs
 unfolding any_nan
-nan_step fs k h = rw (add-one, drop-cons fs k nan)
-
-pub nan_next : {fs : List Float} {k : ℕ} → k < length fs → NanFrom fs k → ne (get_or fs k nan) (get_or fs k nan) ≡ false → NanFrom fs (k + 1)
-nan_next {fs} {k} h f e = record { rest = rw (sym (nan_test (get_or fs k nan)) ∙ e) at (sym (nan_step fs k h) ∙ f.rest) }
-
-pub nan_found : {fs : List Float} {k : ℕ} → k < length fs → NanFrom fs k → ne (get_or fs k nan) (get_or fs k nan) ≡ true → true ≡ any_nan fs
-nan_found {fs} {k} h f e = rw (sym (nan_test (get_or fs k nan)) ∙ e) at (sym (nan_step fs k h) ∙ f.rest)
-
-pub nan_last : {fs : List Float} {k : ℕ} → length fs ≤ k → NanFrom fs k → false ≡ any_nan fs
-unfolding any_nan
-nan_last {fs} {k} h f = rw (drop_of_length-le fs {i = k} h) at f.rest
+nan_any [] = refl
+nan_any (f ∷ fs) = ap (λ (b : Bool). is_nan f || b) (nan_any fs)
 
 -- ---- the passes from p on decide the first non-empty pass's centre
 

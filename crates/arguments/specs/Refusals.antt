@@ -1,9 +1,11 @@
 -- The fit's refusals before it works, in document 01's order.
-use Rattle.std.specs.Prelude.{◌≡◌, refl, Bool, false, not, ◌&&◌, ◌||◌, List, [], ◌∷◌, ℕ, ◌+◌, ◌*◌, ◌≤◌, ◌<◌, leb, ltb, ℤ, length, get_or, Float}
+use Rattle.std.specs.Prelude.{◌≡◌, refl, Bool, false, not, ◌&&◌, ◌||◌, List, [], ◌∷◌, ℕ, ◌+◌, ◌*◌, ◌≤◌, ◌<◌, leb, ltb, ℤ, length, get_or, Float, Option}
 use Rattle.std.specs.Float.{nan}
 use Rattle.std.specs.Float.Ieee.{lt, is_nan, of_bits, round}
-use Rattle.refusal.specs.Numbers as refusal
-use Rattle.refusal.specs.Order.{Refusal, first, ◌if◌}
+use Rattle.refusal.specs.Refusals.{Check, ◌when◌, first_of}
+use Rattle.refusal.specs.declared.Refusal.{Refusal}
+use Rattle.refusal.specs.declared.Refusal.TheVariants.{MomentRange, NanArgument, InitialRange, NanFrequency, FewPasses, FewSamples, ShortMemory}
+use Rattle.refusal.specs.declared.Refusal.TheVariants as refusal
 use Rattle.float.specs.Constant.{decimal}
 use Rattle.float.specs.Ops.{bits}
 use Rattle.float.specs.Trig.{pi}
@@ -11,6 +13,7 @@ use Rattle.moment.specs.Sample.{times_in_range, Timed}
 use Rattle.frame.specs.declared.Vec3.{Vec3}
 use Rattle.pass_set.specs.PassSet.{sizes_agree, Sizes}
 use Rattle.arguments.specs.Passes.{non_empty}
+use Rattle.arguments.specs.declared.Room.{Room}
 
 -- 6000 km and 50000 km
 unfoldable pub least_a : Float
@@ -41,39 +44,31 @@ any_nan (f ∷ fs) = is_nan f || any_nan fs
 unfoldable pub scratch_size : ℕ → ℕ → ℕ
 scratch_size s p = (s + 3 * p) * (5 + 4 * p) + 20000
 
--- the lengths of the lent memory: a number for each pass in each of the four bias slices, 150 sums, and the scratch
-pub record Room : Type 0 where
-  pub dts : ℕ
-  pub dfs : ℕ
-  pub df1s : ℕ
-  pub df2s : ℕ
-  pub log : ℕ
-  pub scratch : ℕ
-
 abbrev pub room_of : (dts dfs df1s df2s log scratch : ℕ) → Room
 room_of dts dfs df1s df2s log scratch = record { dts = dts; dfs = dfs; df1s = df1s; df2s = df2s; log = log; scratch = scratch }
 
+-- a number for each pass in each of the four bias slices, 150 sums, and the scratch
 unfoldable pub enough : ℕ → ℕ → Room → Bool
 enough s p r =
     leb p r.dts && (leb p r.dfs && (leb p r.df1s && (leb p r.df2s && (leb 150 r.log && leb (scratch_size s p) r.scratch))))
 
 module _ (counts : List ℕ) (times : List ℤ) (freqs centers : List Float) (rec : Vec3) (a i : Float) where
-  abbrev pub input_refusals : List Refusal → List Refusal
+  abbrev pub input_refusals : List Check → List Check
   input_refusals rest =
-      (refusal.sizes if not (sizes_agree counts (length times) (length freqs) (length centers)))
-      ∷ (refusal.moment_range if not (times_in_range times))
-      ∷ (refusal.nan_argument_lem if nan_argument rec a i)
-      ∷ (refusal.initial_range if out_of_range a i)
-      ∷ (refusal.nan_frequency if any_nan freqs)
-      ∷ (refusal.few_passes if ltb (length (non_empty counts)) 2)
-      ∷ (refusal.few_samples if ltb (length times) (4 + length (non_empty counts)))
+      (refusal.Sizes when not (sizes_agree counts (length times) (length freqs) (length centers)))
+      ∷ (MomentRange when not (times_in_range times))
+      ∷ (NanArgument when nan_argument rec a i)
+      ∷ (InitialRange when out_of_range a i)
+      ∷ (NanFrequency when any_nan freqs)
+      ∷ (FewPasses when ltb (length (non_empty counts)) 2)
+      ∷ (FewSamples when ltb (length times) (4 + length (non_empty counts)))
       ∷ rest
 
-  unfoldable pub input_refusal_of : ℕ
-  input_refusal_of = first (input_refusals [])
+  unfoldable pub input_refusal_of : Option Refusal
+  input_refusal_of = first_of (input_refusals [])
 
-  unfoldable pub refusal_of : Room → ℕ
-  refusal_of room = first (input_refusals ((refusal.short_memory if not (enough (length times) (length (non_empty counts)) room)) ∷ []))
+  unfoldable pub refusal_of : Room → Option Refusal
+  refusal_of room = first_of (input_refusals ((ShortMemory when not (enough (length times) (length (non_empty counts)) room)) ∷ []))
 
 -- ---- what no refusal says, as facts
 

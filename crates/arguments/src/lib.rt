@@ -1,13 +1,16 @@
 // What a fit is given: its refusals before it works, and its non-empty passes. `non_empty`, `first_center`, `scratch_size` and
-// `has_room` ask for sizes that passed refusal 5; the fit meets that by proof.
+// `accept_room` ask for sizes that passed refusal 5; the fit meets that by proof.
 #![tactic(auto)]
 
-ghost use Rattle.std.specs.Prelude.{◌≡◌, ◌+◌, ◌*◌, ◌≤◌, length};
+ghost use Rattle.std.specs.Prelude.{◌≡◌, ◌+◌, ◌*◌, ◌≤◌, length, cond, Some, None};
+ghost use Rattle.refusal.specs.Refusals.{answer};
+ghost use Rattle.refusal.specs.declared.Refusal.TheVariants.{ShortMemory};
 ghost use Rattle.arguments.specs.Passes.{center_of, Compacts};
-ghost use Rattle.arguments.specs.Refusals.{nan_argument, out_of_range, any_nan, scratch_size, room_of, enough, input_refusal_of};
+ghost use Rattle.arguments.specs.Refusals.{nan_argument, out_of_range, any_nan, scratch_size, enough, input_refusal_of};
 
 use frame::Vec3;
 use pass_set::MAX_PASSES;
+use refusal::Refusal;
 
 // How many sums the log has room for.
 pub const MAX_TRIALS: usize = 150;
@@ -28,8 +31,7 @@ pub fn non_empty(counts: &[u32]) -> NonEmpty
 {
     let mut out = [0u32; MAX_PASSES];
     let mut n = 0usize;
-    for p in 0..counts.len() {
-        let count = counts[p];
+    for &count in counts {
         if count != 0 {
             out[n] = count;
             n += 1;
@@ -46,57 +48,32 @@ pub fn first_center(counts: &[u32], centers: &[f64]) -> f64
     requires { length centers.now ≡ length counts.now }
     ensures { result ≡ center_of counts.now centers.now }
 {
-    for p in 0..counts.len() {
-        if counts[p] != 0 {
+    for (p, &count) in counts.iter().enumerate() {
+        if count != 0 {
             return centers[p];
         }
     }
     0.0
 }
 
+#[tactic(auto, unfolding(crate::specs::Refusals::nan_argument))]
 fn nan_argument(rec: Vec3, a: f64, i: f64) -> bool
     ensures { result ≡ nan_argument rec a i }
 {
-    if rec.x != rec.x {
-        return true;
-    }
-    if rec.y != rec.y {
-        return true;
-    }
-    if rec.z != rec.z {
-        return true;
-    }
-    if a != a {
-        return true;
-    }
-    i != i
+    rec.x.is_nan() || rec.y.is_nan() || rec.z.is_nan() || a.is_nan() || i.is_nan()
 }
 
+#[tactic(auto, unfolding(crate::specs::Refusals::out_of_range))]
 fn out_of_range(a: f64, i: f64) -> bool
     ensures { result ≡ out_of_range a i }
 {
-    if a < 6000e3 {
-        return true;
-    }
-    if a > 50000e3 {
-        return true;
-    }
-    if i < 0.0 {
-        return true;
-    }
-    i > float::PI
+    a < 6000e3 || a > 50000e3 || i < 0.0 || i > float::PI
 }
 
 pub fn any_nan(freqs: &[f64]) -> bool
     ensures { result ≡ any_nan freqs.now }
 {
-    for k in 0..freqs.len() {
-        let f = freqs[k];
-        if f != f {
-            return true;
-        }
-    }
-    false
+    freqs.iter().any(|f| f.is_nan())
 }
 
 // The scratch that so many samples in so many non-empty passes need.
@@ -107,40 +84,44 @@ pub fn scratch_size(samples: usize, passes: usize) -> usize
     (samples + 3 * passes) * (5 + 4 * passes) + 20000
 }
 
-// Whether the lent outputs, the log and the scratch are long enough. False is refusal 21.
-pub fn has_room(
-    samples: usize,
-    passes: usize,
-    dts: usize,
-    dfs: usize,
-    df1s: usize,
-    df2s: usize,
-    log: usize,
-    scratch: usize,
-) -> bool
-    requires { (samples ≤ 4096) × (passes ≤ 16) }
-    ensures { result ≡ enough samples passes (room_of dts dfs df1s df2s log scratch) }
-{
-    if dts < passes {
-        return false;
-    }
-    if dfs < passes {
-        return false;
-    }
-    if df1s < passes {
-        return false;
-    }
-    if df2s < passes {
-        return false;
-    }
-    if log < MAX_TRIALS {
-        return false;
-    }
-    scratch >= scratch_size(samples, passes)
+// The lengths of the memory that a fit is lent: for the four biases of each pass, the sums of the trials, and its work.
+#[derive(Clone, Copy)]
+pub struct Room {
+    pub dts: usize,
+    pub dfs: usize,
+    pub df1s: usize,
+    pub df2s: usize,
+    pub log: usize,
+    pub scratch: usize,
 }
 
-// The first of the refusals 5, 4, 6, 7, 8, 9 and 10 that is due, or 0.
-pub fn input_refusal(
+// Whether it is long enough.
+#[tactic(auto, unfolding(crate::specs::Refusals::enough))]
+fn enough(samples: usize, passes: usize, room: Room) -> bool
+    requires { (samples ≤ 4096) × (passes ≤ 16) }
+    ensures { result ≡ enough samples passes room }
+{
+    passes <= room.dts
+        && passes <= room.dfs
+        && passes <= room.df1s
+        && passes <= room.df2s
+        && MAX_TRIALS <= room.log
+        && scratch_size(samples, passes) <= room.scratch
+}
+
+// Refused: 21, the lent outputs, the log or the scratch are too short.
+pub fn accept_room(samples: usize, passes: usize, room: Room) -> Result<(), Refusal>
+    requires { (samples ≤ 4096) × (passes ≤ 16) }
+    ensures { result ≡ answer (cond (enough samples passes room) None (Some ShortMemory)) tt }
+{
+    if !enough(samples, passes, room) {
+        return Err(Refusal::ShortMemory);
+    }
+    Ok(())
+}
+
+// Refused: the first of 5, 4, 6, 7, 8, 9 and 10 that is due.
+pub fn accept_input(
     counts: &[u32],
     times: &[i64],
     freqs: &[f64],
@@ -148,30 +129,30 @@ pub fn input_refusal(
     rec_ecef: Vec3,
     initial_a: f64,
     initial_i: f64,
-) -> u32
-    ensures { result ≡ input_refusal_of counts.now times.now freqs.now centers.now rec_ecef initial_a initial_i }
+) -> Result<(), Refusal>
+    ensures { result ≡ answer (input_refusal_of counts.now times.now freqs.now centers.now rec_ecef initial_a initial_i) tt }
 {
     if !pass_set::sizes_agree(counts, times.len(), freqs.len(), centers.len()) {
-        return refusal::SIZES;
+        return Err(Refusal::Sizes);
     }
     if !moment::sample::all_in_range(times) {
-        return refusal::MOMENT_RANGE;
+        return Err(Refusal::MomentRange);
     }
     if nan_argument(rec_ecef, initial_a, initial_i) {
-        return refusal::NAN_ARGUMENT;
+        return Err(Refusal::NanArgument);
     }
     if out_of_range(initial_a, initial_i) {
-        return refusal::INITIAL_RANGE;
+        return Err(Refusal::InitialRange);
     }
     if any_nan(freqs) {
-        return refusal::NAN_FREQUENCY;
+        return Err(Refusal::NanFrequency);
     }
     let passes = non_empty(counts).passes;
     if passes < LEAST_PASSES {
-        return refusal::FEW_PASSES;
+        return Err(Refusal::FewPasses);
     }
     if times.len() < 4 + passes {
-        return refusal::FEW_SAMPLES;
+        return Err(Refusal::FewSamples);
     }
-    0
+    Ok(())
 }

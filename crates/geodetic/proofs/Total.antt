@@ -20,6 +20,7 @@ use Rattle.passes.specs.Text.{blank, blanks, keep_trimmed, trim_end, trim, until
 use Rattle.refusal.specs.declared.Refusal.{Refusal}
 use Rattle.refusal.specs.declared.Refusal.TheVariants.{NonAscii, LongLine}
 use Rattle.refusal.specs.Refusals.{Check, first_of, ◌when◌, answer}
+use Rattle.refusal.proofs.Lists.{accepted, clear}
 use Rattle.geodetic.specs.Ellipsoid.{outside, off_limits, earth_fixed, wgs84_to_ecef_of}
 use Rattle.geodetic.specs.Line.{line_size, onto_first, fields_of, field_numbers, field_value, checks, position_said, from_numbers, line_refusal, read_position_of}
 use Rattle.geodetic.specs.Lines.{AllBlank, no_blank, blank_first, PositionLine, Says, ReaderTotal}
@@ -289,24 +290,6 @@ reader_total_accepts {lat = lat} {lon = lon} {alt = alt} line = reader_total_cal
 
 -- ---- from the reader to a position line
 
--- an answer that is a place is no refusal
-answer_ok : {A : Type 0} (o : Option Refusal) (x p : A) → answer o x ≡ Ok p → (o ≡ None) × (x ≡ p)
-answer_ok None x p e = (refl, cc)
-answer_ok (Some r) x p e = let z : ◌≡◌ {A = ℕ} 0 1 = cc in absurd (omega arith)
-
--- no check refuses: none of their conditions holds
-abbrev Clear : List Check → Type 0
-Clear [] = Unit {0}
-Clear (r ∷ rs) = (r.condition ≡ false) × Clear rs
-
-clear : (rs : List Check) → first_of rs ≡ None → Clear rs
-clear [] e = tt
-clear (r ∷ rs) e = go r.condition r.refusal (clear rs) e
-  where
-    go : (b : Bool) (x : Refusal) → (first_of rs ≡ None → Clear rs) → cond b (Some x) (first_of rs) ≡ None → (b ≡ false) × Clear rs
-    go true x k e = let z : ◌≡◌ {A = ℕ} 0 1 = cc in absurd (omega arith)
-    go false x k e = (refl, k e)
-
 -- without a refusal: at most 256 bytes, and three numbers inside 13's limits
 record Unrefused (l : List ℕ) (ns : List Number) : Type 0 where
   pub size : line_size l ≤ 256
@@ -370,7 +353,7 @@ pub reader_total_only : (l : List ℕ) (p : Vec3) → read_position_of l ≡ Ok 
 unfolding read_position_of
 reader_total_only l p e =
     let ns = field_numbers l in
-    let ok = answer_ok (line_refusal l) (position_said ns) p e in
+    let ok = accepted (line_refusal l) (position_said ns) p (sym e) in
     let u = unrefused l ok.0 in
     let f = three (fields_of (trim l)) u.three in
     let inside = subst (λ (fs : List (List ℕ)). off_limits (field_value (get_or (map number fs) 0 (Err NotANumber))) (field_value (get_or (map number fs) 1 (Err NotANumber))) (field_value (get_or (map number fs) 2 (Err NotANumber))) ≡ false) f.is u.inside in

@@ -1,16 +1,12 @@
--- `any_nan` meets its contract: the samples from k on decide what all do. Assumes nothing.
-use borrow.Author.Rules.{rules}
-use Rattle.arguments.proofs.Walks.{nan_first, nan_next, nan_found, nan_last}
+-- `any_nan` meets its contract. Assumes nothing.
+use Rattle.std.proofs.Common.{sym, ◌∙◌, rules, tests}
+use Rattle.std.proofs.lemmas.Iterator.{YieldsList-from_slice}
+use Rattle.std.proofs.lemmas.Iterator.Search.{any_from_yields_List}
+use lib.Ieee.{is_nan}
+use Rattle.arguments.proofs.Walks.{nan_any}
 use Rattle.arguments.proofs.any_nan.Goals as goal
 
-pub loop-k-init : goal.loop-k-init
-loop-k-init c = (search rules, nan_first _)
-
-pub returns-then-f : goal.returns-then-f
-returns-then-f c = nan_found c.loop-k-test.true c.loop-k.invariant.1 c.if-f.true
-
-pub loop-k-preserved : goal.loop-k-preserved
-loop-k-preserved c = (search rules, nan_next c.loop-k-test.true c.loop-k.invariant.1 c.if-f.false)
-
 pub returns : goal.returns
-returns c = nan_last c.loop-k-test.false c.loop-k.invariant.1
+returns c =
+    any_from_yields_List is_nan _ _ c.any.result c.any.ensures.ran (YieldsList-from_slice c.args.freqs.now c.iter.ensures.rest) (λ x b q k. search (rules, tests))
+    ∙ sym (nan_any c.args.freqs.now)

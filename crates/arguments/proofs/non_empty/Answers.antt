@@ -4,15 +4,15 @@ use Rattle.arguments.proofs.Walks.{kept_first, kept_more, kept_skip, kept_last}
 use Rattle.arguments.proofs.non_empty.Goals.{then-count-ne0, else-count-ne0}
 use Rattle.arguments.proofs.non_empty.Goals as goal
 
-pub loop-p-init : goal.loop-p-init
-loop-p-init c = kept_first _ _ refl
+pub loop-count-init : goal.loop-count-init
+loop-count-init c = kept_first _ _ refl
 
-pub loop-p-preserved : goal.loop-p-preserved
-loop-p-preserved c =
+pub loop-count-preserved : goal.loop-count-preserved
+loop-count-preserved c =
     elim c.if-count-ne0.branch [
-      | then-count-ne0 w ↦ kept_more c.loop-p-test.true c.loop-p.invariant c.requires w.if-count-ne0.true w.out-is w.n-is
-      | else-count-ne0 w ↦ kept_skip c.loop-p-test.true c.loop-p.invariant w.if-count-ne0.false w.out-is w.n-is
+      | then-count-ne0 w ↦ kept_more c.loop-count-test.true c.loop-count.invariant c.requires w.if-count-ne0.true w.out-is w.n-is
+      | else-count-ne0 w ↦ kept_skip c.loop-count-test.true c.loop-count.invariant w.if-count-ne0.false w.out-is w.n-is
     ]
 
 pub returns : goal.returns
-returns c = kept_last c.loop-p-test.false c.requires c.loop-p.invariant
+returns c = kept_last c.loop-count-test.false c.requires c.loop-count.invariant

@@ -1,4 +1,4 @@
--- `input_refusal` meets its contract. Assumes nothing.
+-- `accept_input` meets its contract. Assumes nothing.
 use mathlib.Core.Path.{◌≡◌, sym, ◌∙◌}
 use mathlib.Core.Bool.{Bool, false, not}
 use mathlib.Core.List.{List}
@@ -11,7 +11,7 @@ use Rattle.pass_set.proofs.Laws as set
 use Rattle.arguments.specs.Refusals.{input_refusal_of}
 use Rattle.arguments.proofs.Laws.{few_kept}
 use Rattle.std.proofs.Common.{ap, not}
-use Rattle.arguments.proofs.input_refusal.Goals as goal
+use Rattle.arguments.proofs.accept_input.Goals as goal
 
 few : (counts : List ℕ) (times freqs centers : ℕ) (b : Bool) → b ≡ sizes_agree counts times freqs centers → not b ≡ false → length counts ≤ 16
 few counts times freqs centers b e h = (set.sizes (sym e ∙ not-false b h)).few
