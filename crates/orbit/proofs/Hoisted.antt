@@ -4,39 +4,46 @@ use Prim.Native.Nat.{ℕ}
 use lib.Ieee.{Float}
 use Rattle.float.specs.Trig.{sin_of, cos_of}
 use Rattle.float.specs.declared.trig.SinCos.{SinCos}
-use Rattle.moment.specs.Time.{Sound}
+use Rattle.moment.specs.Time.{Sound, tau_of}
 use Rattle.frame.specs.Julian.{jd_at}
 use Rattle.frame.specs.Rotation.{theta_of, turn_at}
 use Rattle.frame.specs.declared.State.{State}
 use Rattle.orbit.specs.Orbit.{rates_of, propagated_of, ecef_at, hoisted}
-use Rattle.orbit.specs.Doppler.{potential_of, sight_of, predicted_at, predicted_of, predicted_hoisted}
+use Rattle.orbit.specs.Doppler.{received_of, far_moments, adjusted_of, corrected_of, epoch_count, predicted_of}
 use Rattle.orbit.specs.declared.Elements.{Elements}
 use Rattle.orbit.specs.declared.Rates.{Rates}
 use Rattle.orbit.specs.declared.doppler.Station.{Station}
 use Rattle.orbit.specs.declared.doppler.Sight.{Sight}
 use Rattle.std.proofs.Common.{Result}
+use Rattle.refusal.specs.Refusals.{answer}
 use Rattle.refusal.specs.declared.Refusal.{Refusal}
 
 pub turn_is : (turn : SinCos) (jd : Float) (secs nanos : ℕ) → jd ≡ jd_at secs nanos → (turn.sin ≡ sin_of (theta_of jd)) × (turn.cos ≡ cos_of (theta_of jd)) → turn ≡ turn_at secs nanos
 turn_is turn jd secs nanos h p =
     ap₂ (λ (x y : Float). record { sin = x; cos = y }) (p.0 ∙ ap (λ (x : Float). sin_of (theta_of x)) h) (p.1 ∙ ap (λ (x : Float). cos_of (theta_of x)) h)
 
-pub predicted_at_lem : (g : Station) (e : Elements) (t : ℕ) (turn turn2 : SinCos) (dt near bias : Float) (v : Sight) (r : Result Float Refusal)
-    → turn ≡ turn2 → v ≡ sight_of g e → r ≡ predicted_at v t turn dt near bias → r ≡ predicted_of g e t turn2 dt near bias
-predicted_at_lem g e t turn turn2 dt near bias v r h j q = (simp (h, j) at q) ∙ predicted_hoisted g e t turn2 dt near bias
-
 pub propagated_at : (e : Elements) (k : Rates) (tau : Float) (turn : SinCos) (r : State) → k ≡ rates_of e → r ≡ propagated_of e k tau turn → r ≡ ecef_at e.a e.i e.raan0 e.u0 tau turn
 propagated_at e k tau turn r j q = (simp j at q) ∙ hoisted e tau turn
 
-pub sight_is : (g : Station) (e : Elements) (k : Rates) (u : Float) → k ≡ rates_of e → u ≡ potential_of g.rec_ecef.x g.rec_ecef.y g.rec_ecef.z
-    → ◌≡◌ {A = Sight} (record { station = g; e = e; k = k; u_rec = u }) (sight_of g e)
-unfolding sight_of
-sight_is g e k u h j = simp (h, j)
+-- a prediction from what is worked out before, and from the rotation at t_obs
+unfoldable pub predicted_at : (v : Sight) (t : ℕ) (turn : SinCos) (dt near bias : Float) → Result Float Refusal
+predicted_at v t turn dt near bias =
+    let g = v.station in
+    let tAdj = adjusted_of t dt in
+    let tCorr = corrected_of tAdj (propagated_of v.e v.k (tau_of tAdj (epoch_count g)) turn) in
+    answer (far_moments tAdj tCorr)
+    (received_of (propagated_of v.e v.k (tau_of tCorr (epoch_count g)) turn) g.rec_ecef v.u_rec near bias g.center_freq)
 
--- its station is the one given, so that its epoch is as sound
-pub sight_station : (g : Station) (e : Elements) (v : Sight) → v ≡ sight_of g e → v.station ≡ g
-unfolding sight_of
-sight_station g e v h = ap (λ (x : Sight). x.station) h
+-- it is the Rust's
+pub predicted_hoisted : (v : Sight) (t : ℕ) (turn : SinCos) (dt near bias : Float) → predicted_at v t turn dt near bias ≡ predicted_of v.station v.e t turn dt near bias
+unfolding predicted_at predicted_of
+predicted_hoisted v t turn dt near bias = simp (v.rates, v.potential, hoisted)
 
-pub sight_sound : (g : Station) (e : Elements) (v : Sight) → v ≡ sight_of g e → Sound g.epoch.secs g.epoch.nanos → Sound v.station.epoch.secs v.station.epoch.nanos
-sight_sound g e v h s = rw (sight_station g e v h) s
+-- where the station, the orbit and the rotation are the ones given
+pub predicted_for : (g s : Station) (e o : Elements) (t : ℕ) (turn turn2 : SinCos) (dt near bias : Float) (r : Result Float Refusal)
+    → turn ≡ turn2 → (s ≡ g) × (o ≡ e) → r ≡ predicted_of s o t turn dt near bias → r ≡ predicted_of g e t turn2 dt near bias
+predicted_for g s e o t turn turn2 dt near bias r h j q = rw (h, j.0, j.1) at q
+
+-- a station's epoch is as sound as that of the one given
+pub sight_sound : (g s : Station) → s ≡ g → Sound g.epoch.secs g.epoch.nanos → Sound s.epoch.secs s.epoch.nanos
+sight_sound g s h w = rw h w

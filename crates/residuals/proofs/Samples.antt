@@ -20,38 +20,29 @@ use Rattle.moment.specs.Time.{nanos_of, tau_millis_of}
 use Rattle.moment.specs.Sample.{time_in_range, Timed, instant_at}
 use Rattle.moment.specs.declared.Instant.{Instant}
 use Rattle.moment.proofs.Samples.{ranged, of_nanos}
-use Rattle.orbit.specs.Doppler.{sight_of, predicted_at}
+use Rattle.orbit.specs.Doppler.{predicted_of}
 use Rattle.orbit.specs.declared.Elements.{Elements}
 use Rattle.orbit.specs.declared.doppler.Station.{Station}
-use Rattle.orbit.specs.declared.doppler.Sight.{Sight}
 use Rattle.std.proofs.Common.{Result}
 use Rattle.refusal.specs.declared.Refusal.{Refusal}
-use Rattle.orbit.proofs.Hoisted.{predicted_at_lem}
 use Rattle.residuals.specs.Samples.{count_at, counts_at, instant_of, nanos_at, rotation_at, turn_in, DatedTimes, Rotations}
 use Rattle.residuals.specs.Residuals.{bias_at, near_of, prediction_of}
 use Rattle.residuals.specs.declared.Bias.{Bias}
 use Rattle.residuals.proofs.Laws.{stored}
 
--- the sight of an orbit is its own station's of its own elements
-pub seen : (g : Station) (e : Elements) (v : Sight) → v ≡ sight_of g e → v ≡ sight_of v.station v.e
-unfolding sight_of
-seen g e v h = subst (λ (w : Sight). w ≡ sight_of w.station w.e) (sym h) refl
-
--- and so a prediction over it is the given station's
-pub seen_prediction : (g : Station) (e : Elements) (v : Sight) (times : List ℕ) (dt : Float) (b : Bias) (f k : ℕ) (y : Result Float Refusal)
-    → v ≡ sight_of g e → y ≡ prediction_of v.station times v.e dt b f k → y ≡ prediction_of g times e dt b f k
-unfolding sight_of
-seen_prediction g e v times dt b f k y h q = q ∙ ap (λ (w : Sight). prediction_of w.station times w.e dt b f k) h
+-- a prediction over the sight of a station and an orbit is theirs
+pub seen_prediction : (g : Station) (e : Elements) {s : Station} {o : Elements} (times : List ℕ) (dt : Float) (b : Bias) (f k : ℕ) (y : Result Float Refusal)
+    → (s ≡ g) × (o ≡ e) → y ≡ prediction_of s times o dt b f k → y ≡ prediction_of g times e dt b f k
+seen_prediction g e times dt b f k y h q = rw (h.0, h.1) at q
 
 -- the moments t and s, the bias u, what holds within a metre w, the rotation r and the prediction y, as the calls give them
-pub predicts : (times : List ℕ) (turns : List Float) (v : Sight) (dt : Float) (b : Bias) (f k : ℕ) (t s : Instant) (u w : Float) (r : SinCos) (y : Result Float Refusal)
-    → Rotations times turns → k < length times → v ≡ sight_of v.station v.e → t ≡ instant_of (get_or times k 0) → s ≡ instant_of (get_or times f 0)
+pub predicts : (times : List ℕ) (turns : List Float) (g : Station) (e : Elements) (dt : Float) (b : Bias) (f k : ℕ) (t s : Instant) (u w : Float) (r : SinCos) (y : Result Float Refusal)
+    → Rotations times turns → k < length times → t ≡ instant_of (get_or times k 0) → s ≡ instant_of (get_or times f 0)
     → u ≡ bias_at b (tau_millis_of (nanos_of t.secs t.nanos) (nanos_of s.secs s.nanos)) → w ≡ near_of b → r ≡ turn_in turns k
-    → y ≡ predicted_at v (nanos_of t.secs t.nanos) r dt w u
-    → y ≡ prediction_of v.station times v.e dt b f k
+    → y ≡ predicted_of g e (nanos_of t.secs t.nanos) r dt w u
+    → y ≡ prediction_of g times e dt b f k
 unfolding prediction_of nanos_at
-predicts times turns v dt b f k t s u w r y turned h ev et es eu ew er ey =
-    predicted_at_lem v.station v.e _ _ _ dt _ _ v y (turned.each k h) ev (rw (er, ew, eu, et, es) at ey)
+predicts times turns g e dt b f k t s u w r y turned h et es eu ew er ey = rw (er, turned.each k h, ew, eu, et, es) at ey
 
 -- ---- the loop that writes the rotations
 

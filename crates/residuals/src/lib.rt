@@ -9,7 +9,6 @@ ghost use Rattle.float.specs.Ops.{bits};
 ghost use Rattle.moment.specs.Origin.{count1957, count2057};
 ghost use Rattle.moment.specs.Sample.{time_in_range, Timed};
 ghost use Rattle.moment.specs.Time.{nanos_of, tau_millis_of, Sound};
-ghost use Rattle.orbit.specs.Doppler.{sight_of};
 ghost use Rattle.residuals.specs.Samples.{count_at, counts_at, passes_of, instant_of, rotation_at, turn_in, DatedTimes, Rotations, Samples};
 ghost use Rattle.residuals.specs.Residuals.{
   elements_of,
@@ -187,8 +186,7 @@ fn predict_sample(
     first: usize,
     k: usize,
 ) -> Result<f64, Refusal>
-    requires { Sound v.station.epoch.secs v.station.epoch.nanos × Rotations times.now turns.now × (first < length times.now) × (k < length times.now)
-        × (v ≡ sight_of v.station v.e) }
+    requires { Sound v.station.epoch.secs v.station.epoch.nanos × Rotations times.now turns.now × (first < length times.now) × (k < length times.now) }
     ensures { result ≡ prediction_of v.station times.now v.e dt b first k }
 {
     let t = instant(times[k]);

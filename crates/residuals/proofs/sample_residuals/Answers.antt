@@ -6,7 +6,7 @@ use Prim.Native.Nat.{ℕ}
 use native.Mathlib.Omega.{arith}
 use lib.ListN.{length, take, length-set}
 use Rattle.orbit.proofs.Hoisted.{sight_sound}
-use Rattle.residuals.proofs.Samples.{seen, seen_prediction}
+use Rattle.residuals.proofs.Samples.{seen_prediction}
 use Rattle.residuals.proofs.Laws.{then_nil, total_next, total_end, residual_is, residual_far, only_far, far_filled, all_filled, into_pass, next_sample, too_far, past_pass, past_passes}
 use Rattle.residuals.proofs.sample_residuals.Goals as goal
 
@@ -40,11 +40,10 @@ loop-j-init c =
 pub predict_sample-requires : goal.predict_sample-requires
 predict_sample-requires c =
     let pre = c.requires in (
-      sight_sound _ _ _ c.sight_of-sight.ensures pre.0.epoch,
+      sight_sound _ _ c.sight_of-sight.ensures.0 pre.0.epoch,
       pre.0.turned,
       omega (arith, c.loop-j.invariant.from, c.loop-j.invariant.inside, c.loop-j-test.true),
       omega (arith, c.loop-j.invariant.inside, c.loop-j-test.true),
-      seen _ _ _ c.sight_of-sight.ensures,
     )
 
 pub loop-j-preserved : goal.loop-j-preserved
@@ -62,7 +61,7 @@ loop-j-preserved c =
       whole =
           next_sample _ _ c.loop-j.out _ _ c.loop-j.j _ _ _ c.loop-j-test.true
           (omega (arith, c.loop-j.invariant.inside, c.loop-j.invariant.room, c.loop-j-test.true))
-          (residual_is _ _ _ _ _ _ _ _ _ _ _ c.elements_of-e.ensures c.dt_of-dt.ensures c.biases_of-b.ensures (seen_prediction _ _ _ _ _ _ _ _ _ c.sight_of-sight.ensures c.predict_sample.ensures) _ c.in-Ok.is)
+          (residual_is _ _ _ _ _ _ _ _ _ _ _ c.elements_of-e.ensures c.dt_of-dt.ensures c.biases_of-b.ensures (seen_prediction _ _ _ _ _ _ _ _ c.sight_of-sight.ensures c.predict_sample.ensures) _ c.in-Ok.is)
           c.loop-j.invariant.whole;
     }
 
@@ -84,7 +83,7 @@ returns-after-passes c =
 
 pub returns-in-Err : goal.returns-in-Err
 returns-in-Err c =
-    let pred = seen_prediction _ _ _ _ _ _ _ _ _ c.sight_of-sight.ensures c.predict_sample.ensures in
+    let pred = seen_prediction _ _ _ _ _ _ _ _ c.sight_of-sight.ensures c.predict_sample.ensures in
     far_filled (too_far _ _ (take c.loop-j.j c.loop-j.out) _ _ c.loop-j.j _ _ c.loop-j-test.true
     (residual_far _ _ _ _ _ _ _ _ _ _ _ c.elements_of-e.ensures c.dt_of-dt.ensures c.biases_of-b.ensures pred _ c.in-Err.is)
     c.loop-j.invariant.whole)
