@@ -1,15 +1,19 @@
 -- Laws on the definitions of specs/: what a turn of each loop does to them. Assumes nothing.
 use mathlib.Core.Path.{◌≡◌, refl, sym, ap, ◌∙◌}
-use mathlib.Core.Bool.{Bool, true, false}
+use mathlib.Core.Bool.{Bool, true, false, not}
 use mathlib.Core.List.{List, [], ◌∷◌, ◌++◌, append_assoc, append-nil}
 use mathlib.Core.Option.{Option, none, some}
 use Prim.Native.Nat.{ℕ, suc, ◌+◌, ◌-◌, ◌*◌, ◌<◌, ◌≤◌}
 use native.Mathlib.Nat.{add-sub_cancel_left, le_antisymm}
 use native.Mathlib.Numerals.{add-one}
 use native.Mathlib.Omega.{arith}
-use lib.ListN.{length, get_or, take, drop, set, drop_of_length-le}
-use lib.Seq.{drop-cons, take-suc-set}
+use lib.ListN.{length, get_or, take, drop, set, drop_of_length-le, length-append}
+use lib.Seq.{drop-cons, take-suc-set, take_at, length-take-le}
+use lib.Dec.{eqb}
+use borrow.Author.Tests.{ne_eqb}
+use borrow.Rule.Slice.PartMut.{mid_of, put_mid, post_of, mid_len, same_len_mid}
 use lib.Ieee.{Float, nan}
+use Rattle.std.proofs.lemmas.List.{take_all}
 use Rattle.float.specs.Ops.{◌⊕◌, ◌⊖◌, ◌⊗◌, bits, at}
 use Rattle.pass_set.specs.PassSet.{total}
 use Rattle.float.specs.declared.trig.SinCos.{SinCos}
@@ -27,6 +31,17 @@ use Rattle.residuals.specs.Samples.{Passes}
 use Rattle.residuals.specs.Residuals.{◌then◌, elements_of, dt_of, pass_bias, shift_of, prediction_of, residual, samples, passes, dt_weight_bits, df1_weight_bits, df2_weight_bits, dt_penalties, drift_penalties, penalties, rows_of, residuals, sum_squares, sum_of}
 use Rattle.residuals.specs.Answers.{filled_answer, Filled, Summed}
 use Rattle.residuals.specs.declared.Bias.{Bias}
+
+-- ---- a const parameter of type bool, which proofs hold as a number
+
+abbrev pub flag : ℕ → Bool
+flag n = not (eqb n 0)
+
+pub flag_true : (n : ℕ) → (n ≡ 0 → ⊥) → flag n ≡ true
+flag_true n h = ap not (ne_eqb n 0 h)
+
+pub flag_false : (n : ℕ) → n ≡ 0 → flag n ≡ false
+flag_false n h = ap flag h
 
 -- ---- lists one after the other
 
@@ -162,6 +177,31 @@ pub stored : {A : Type 0} (out : List A) (k : ℕ) (r : A) (rest : List A) → k
 stored out k r rest h =
     ap (◌++ rest) (ap (λ (n : ℕ). take n (set out k r)) (add-one k) ∙ take-suc-set out k r h) ∙ append_assoc (take k out) (r ∷ []) rest
 
+-- all is written, and nothing is left to come
+pub all_taken : {A : Type 0} (out : List A) (k : ℕ) (rest : List A) → length out ≤ k → rest ≡ [] → out ≡ take k out ++ rest
+all_taken out k rest h e = rw (e, append-nil, take_all k out h) refl
+
+-- what is written to a lent part stands behind what lies before it
+pub part_written : {A : Type 0} (xs ys : List A) (a e : ℕ) → a ≤ e → e ≤ length xs → length ys ≡ e - a → take e (put_mid a (e - a) xs ys) ≡ take a xs ++ ys
+part_written xs ys a e h l size =
+    ap (take e) (sym (append_assoc (take a xs) ys (post_of a (e - a) xs)))
+    ∙ take_at (take a xs ++ ys) (post_of a (e - a) xs) e (length-append (take a xs) ys ∙ ap (◌+ length ys) (length-take-le a xs (omega arith)) ∙ omega (arith, size))
+
+-- the penalties on dt, written behind n residuals
+pub dt_written : (second : Bool) (x out v : List Float) (n m : ℕ) → n + m ≤ length out → length v ≡ length (mid_of n (n + m - n) out)
+    → v ≡ dt_penalties second x 0 (length (mid_of n (n + m - n) out)) → take (n + m) (put_mid n (n + m - n) out v) ≡ take n out ++ dt_penalties second x 0 m
+dt_written second x out v n m h size e =
+    let long = mid_len n (n + m) out h in
+    part_written out v n (n + m) (omega arith) h (size ∙ long) ∙ ap (take n out ++◌) (e ∙ ap (dt_penalties second x 0) (long ∙ add-sub_cancel_left n m))
+
+-- and those on the drifts, behind n more
+pub drift_written : (x out v w : List Float) (n m : ℕ) → n + 3 * m ≤ length out → length v ≡ length (mid_of n (n + m - n) out)
+    → length w ≡ length (mid_of (n + m) (n + 3 * m - (n + m)) (put_mid n (n + m - n) out v)) → w ≡ drift_penalties x 0 m
+    → take (n + 3 * m) (put_mid (n + m) (n + 3 * m - (n + m)) (put_mid n (n + m - n) out v) w) ≡ take (n + m) (put_mid n (n + m - n) out v) ++ drift_penalties x 0 m
+drift_written x out v w n m h size sizes e =
+    let l : n + 3 * m ≤ length (put_mid n (n + m - n) out v) = omega (arith, h, same_len_mid n (n + m - n) out v size) in
+    part_written (put_mid n (n + m - n) out v) w (n + m) (n + 3 * m) (omega arith) l (sizes ∙ mid_len (n + m) (n + 3 * m) _ l) ∙ ap (take (n + m) (put_mid n (n + m - n) out v) ++◌) e
+
 less_one : (e k : ℕ) → k < e → e - k ≡ suc (e - (k + 1))
 less_one e k h = omega arith
 
@@ -240,13 +280,12 @@ module _ (second : Bool) (g : Station) (d : Passes) (x : List Float) where
     unfolding rows_of penalties
     first_written e = whole_written u (rows_of second n m) (take n o₁) o₂ p (rw (e, c, append-nil) (rw e at e₂))
 
-    pub second_written : (o₃ : List Float) → second ≡ true → take (n + m + 2 * m) o₃ ≡ take (n + m) o₂ ++ drift_penalties x 0 m
+    pub second_written : (o₃ : List Float) → second ≡ true → take (n + 3 * m) o₃ ≡ take (n + m) o₂ ++ drift_penalties x 0 m
         → Filled (Ok tt) (take (rows_of second n m) o₃) (residuals second g d x)
     unfolding rows_of penalties
     second_written o₃ e e₃ =
-        let sizes : n + 3 * m ≡ n + m + 2 * m = omega arith in
         whole_written u (rows_of second n m) (take n o₁) o₃ p
-        (rw (e, c, sizes) (e₃ ∙ ap (◌++ drift_penalties x 0 m) (rw e at e₂) ∙ append_assoc (take n o₁) (dt_penalties true x 0 m) (drift_penalties x 0 m)))
+        (rw (e, c) (e₃ ∙ ap (◌++ drift_penalties x 0 m) (rw e at e₂) ∙ append_assoc (take n o₁) (dt_penalties true x 0 m) (drift_penalties x 0 m)))
 
 pub sum_far : (e : Refusal) (l : List Float) (w : Option (List Float)) → Filled (Err e) l w → Summed l w (Err e)
 sum_far e l none p = record { answer = ap Err (refused_far p); written = refl }

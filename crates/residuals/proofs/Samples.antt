@@ -1,5 +1,5 @@
 -- What the calls of `predict_sample` make of a prediction, and those of `rotations` of the rotations. Assumes nothing.
-use mathlib.Core.Path.{◌≡◌, refl, sym, ap, subst, ◌∙◌}
+use mathlib.Core.Path.{◌≡◌, refl, sym, ap, ◌∙◌}
 use mathlib.Core.Bool.{true}
 use mathlib.Core.List.{List, [], ◌∷◌, ◌++◌, append-nil}
 use Prim.Native.Nat.{ℕ, zero, suc, ◌+◌, ◌*◌, ◌<◌, ◌≤◌}
@@ -36,13 +36,13 @@ pub seen_prediction : (g : Station) (e : Elements) {s : Station} {o : Elements} 
 seen_prediction g e times dt b f k y h q = rw (h.0, h.1) at q
 
 -- the moments t and s, the bias u, what holds within a metre w, the rotation r and the prediction y, as the calls give them
-pub predicts : (times : List ℕ) (turns : List Float) (g : Station) (e : Elements) (dt : Float) (b : Bias) (f k : ℕ) (t s : Instant) (u w : Float) (r : SinCos) (y : Result Float Refusal)
-    → Rotations times turns → k < length times → t ≡ instant_of (get_or times k 0) → s ≡ instant_of (get_or times f 0)
-    → u ≡ bias_at b (tau_millis_of (nanos_of t.secs t.nanos) (nanos_of s.secs s.nanos)) → w ≡ near_of b → r ≡ turn_in turns k
+pub predicts : (times : List ℕ) (g : Station) (e : Elements) (dt : Float) (b : Bias) (f k : ℕ) (t s : Instant) (u w : Float) (r : SinCos) (y : Result Float Refusal)
+    → t ≡ instant_of (get_or times k 0) → s ≡ instant_of (get_or times f 0)
+    → u ≡ bias_at b (tau_millis_of (nanos_of t.secs t.nanos) (nanos_of s.secs s.nanos)) → w ≡ near_of b → r ≡ rotation_at (get_or times k 0)
     → y ≡ predicted_of g e (nanos_of t.secs t.nanos) r dt w u
     → y ≡ prediction_of g times e dt b f k
 unfolding prediction_of nanos_at
-predicts times turns g e dt b f k t s u w r y turned h et es eu ew er ey = rw (er, turned.each k h, ew, eu, et, es) at ey
+predicts times g e dt b f k t s u w r y et es eu ew er ey = rw (er, ew, eu, et, es) at ey
 
 -- ---- the loop that writes the rotations
 

@@ -3,7 +3,13 @@ use Rattle.std.specs.Prelude.{◌≡◌, List, Float, Result, Ok, Err, ⊤}
 use Rattle.std.proofs.Math.Option.{Option, none, some}
 use Rattle.refusal.specs.declared.Refusal.{Refusal}
 use Rattle.refusal.specs.declared.Refusal.TheVariants.{FarMoment}
+use Rattle.residuals.specs.Samples.{Passes, passes_of}
 use Rattle.residuals.specs.Residuals.{each, sum_of}
+use Rattle.residuals.specs.declared.observations.Observations.{Observations}
+
+-- the passes that a fit's observations are
+abbrev pub passes_in : Observations → Passes
+passes_in o = passes_of o.counts.now o.times.now o.freqs.now
 
 -- a sum, or refusal 23
 abbrev pub sum_answer : Option Float → Result Float Refusal

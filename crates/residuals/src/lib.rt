@@ -1,15 +1,17 @@
 // The residuals of a set of parameters and their penalised sum, for both refinements: what a trial compares. Definitions in
-// specs/. `second` says which refinement: in the first a pass has two biases, in the second four.
+// specs/. `SECOND` says which refinement: in the first a pass has two biases, in the second four.
 // The functions of this crate are called with what they require by the crates above, which meet it by proof.
 #![tactic(auto)]
 
-ghost use Rattle.std.specs.Prelude.{◌≡◌, true, ◌++◌, ◌+◌, ◌*◌, ◌<◌, ◌≤◌, length, take};
+pub mod observations;
+
+ghost use Rattle.std.specs.Prelude.{◌≡◌, true, ◌+◌, ◌*◌, ◌<◌, ◌≤◌, length, take};
 ghost use Rattle.std.specs.Float.Ieee.{neg};
 ghost use Rattle.float.specs.Ops.{bits};
 ghost use Rattle.moment.specs.Origin.{count1957, count2057};
 ghost use Rattle.moment.specs.Sample.{time_in_range, Timed};
 ghost use Rattle.moment.specs.Time.{nanos_of, tau_millis_of, Sound};
-ghost use Rattle.residuals.specs.Samples.{count_at, counts_at, passes_of, instant_of, rotation_at, turn_in, DatedTimes, Rotations, Samples};
+ghost use Rattle.residuals.specs.Samples.{count_at, counts_at, instant_of, rotation_at, DatedTimes, Rotations};
 ghost use Rattle.residuals.specs.Residuals.{
   elements_of,
   place_of,
@@ -17,7 +19,6 @@ ghost use Rattle.residuals.specs.Residuals.{
   pass_bias,
   bias_at,
   near_of,
-  prediction_of,
   residual,
   passes,
   dt_penalties,
@@ -26,12 +27,13 @@ ghost use Rattle.residuals.specs.Residuals.{
   residuals,
   sum_squares,
 };
-ghost use Rattle.residuals.specs.Answers.{Filled, Summed};
+ghost use Rattle.residuals.specs.Answers.{passes_in, Filled, Summed};
 
 use float::trig::SinCos;
 use moment::Instant;
+use observations::Observations;
 use orbit::Elements;
-use orbit::doppler::{DfPoly, Sight, Station};
+use orbit::doppler::DfPoly;
 use refusal::Refusal;
 
 // Parameters of 16 passes.
@@ -40,11 +42,9 @@ pub const PARAMS: usize = 68;
 // Residuals of 4,096 samples in 16 passes, with their penalties.
 pub const ROWS: usize = 4144;
 
-// A set of parameters of either refinement, and what its predictions share.
+// A set of parameters of either refinement.
 #[derive(Clone, Copy)]
-pub struct Point {
-    pub second: bool,
-    pub station: Station,
+pub struct Point<const SECOND: bool> {
     pub params: [f64; PARAMS],
 }
 
@@ -69,29 +69,52 @@ pub fn elements_of(x: [f64; PARAMS]) -> Elements
 }
 
 // Where the biases of pass p begin.
-pub fn place_of(second: bool, p: usize) -> usize
+pub fn place_of<const SECOND: bool>(p: usize) -> usize
     requires { p ≤ 16 }
-    ensures { (result ≡ place_of second p) × (result ≤ 4 + 4 * p) × (4 ≤ result) }
+    ensures { (result ≡ place_of SECOND p) × (result ≤ 4 + 4 * p) × (4 ≤ result) }
 {
-    if second { 4 + 4 * p } else { 4 + 2 * p }
+    if SECOND { 4 + 4 * p } else { 4 + 2 * p }
 }
 
-fn dt_of(second: bool, x: [f64; PARAMS], p: usize) -> f64
-    requires { p < 16 }
-    ensures { result ≡ dt_of second x p }
-{
-    let k = place_of(second, p);
-    x[k]
-}
+impl<const SECOND: bool> Point<SECOND> {
+    fn dt(&self, p: usize) -> f64
+        requires { p < 16 }
+        ensures { result ≡ dt_of SECOND self.now.params p }
+    {
+        self.params[place_of::<SECOND>(p)]
+    }
 
-fn biases_of(second: bool, x: [f64; PARAMS], p: usize) -> Bias
-    requires { p < 16 }
-    ensures { result ≡ pass_bias second x p }
-{
-    if second {
-        Bias::Polynomial(DfPoly(x[4 + 4 * p + 1], x[4 + 4 * p + 2], x[4 + 4 * p + 3]))
-    } else {
-        Bias::Constant(x[4 + 2 * p + 1])
+    fn bias(&self, p: usize) -> Bias
+        requires { p < 16 }
+        ensures { result ≡ pass_bias SECOND self.now.params p }
+    {
+        let x = &self.params;
+        if SECOND {
+            Bias::Polynomial(DfPoly(x[4 + 4 * p + 1], x[4 + 4 * p + 2], x[4 + 4 * p + 3]))
+        } else {
+            Bias::Constant(x[4 + 2 * p + 1])
+        }
+    }
+
+    // Writes the penalties on dt, one for each pass.
+    fn dt_penalties(&self, out: &mut [f64])
+        requires { length out.old ≤ 16 }
+        ensures { out.new ≡ dt_penalties SECOND self.now.params 0 (length out.old) }
+    {
+        for (p, penalty) in out.iter_mut().enumerate() {
+            *penalty = self.dt(p) * 10.0;
+        }
+    }
+
+    // Writes the penalties on df1 and df2, two for each pass.
+    fn drift_penalties(&self, passes: usize, out: &mut [f64])
+        requires { (passes ≤ 16) × (length out.old ≡ 2 * passes) }
+        ensures { out.new ≡ drift_penalties self.now.params 0 passes }
+    {
+        for p in 0..passes {
+            out[2 * p] = self.params[4 + 4 * p + 2] * 100.0;
+            out[2 * p + 1] = self.params[4 + 4 * p + 3] * 10000.0;
+        }
     }
 }
 
@@ -144,16 +167,6 @@ pub fn rotations(times: &[u64], turns: &mut [f64])
     }
 }
 
-fn turn_in(turns: &[f64], k: usize) -> SinCos
-    requires { 2 * k + 1 < length turns.now }
-    ensures { result ≡ turn_in turns.now k }
-{
-    SinCos {
-        sin: turns[2 * k],
-        cos: turns[2 * k + 1],
-    }
-}
-
 // ---- a sample's residual
 
 fn near_of(b: Bias) -> f64
@@ -176,56 +189,29 @@ fn bias_at(b: Bias, t: Instant, since: Instant) -> f64
     }
 }
 
-// The shift of sample k of a pass that begins with sample `first`.
-fn predict_sample(
-    times: &[u64],
-    turns: &[f64],
-    v: Sight,
-    dt: f64,
-    b: Bias,
-    first: usize,
-    k: usize,
-) -> Result<f64, Refusal>
-    requires { Sound v.station.epoch.secs v.station.epoch.nanos × Rotations times.now turns.now × (first < length times.now) × (k < length times.now) }
-    ensures { result ≡ prediction_of v.station times.now v.e dt b first k }
-{
-    let t = instant(times[k]);
-    let since = instant(times[first]);
-    let bias = bias_at(b, t, since);
-    let near = near_of(b);
-    let turn = turn_in(turns, k);
-    orbit::doppler::predict(v, t, turn, dt, near, bias)
-}
-
 // ---- all residuals
 
 // Writes the residuals of all samples, pass by pass; refused, by 23, at the first moment that is too far.
-fn sample_residuals(
-    set: Point,
-    counts: &[u32],
-    times: &[u64],
-    freqs: &[f64],
-    turns: &[f64],
+fn sample_residuals<const SECOND: bool>(
+    set: &Point<SECOND>,
+    obs: &Observations,
     out: &mut [f64],
 ) -> Result<(), Refusal>
-    requires { Samples set.station (passes_of counts.now times.now freqs.now) turns.now × (length times.now ≤ length out.old) }
-    ensures { Filled result (take (length times.now) out.new)
-        (passes (residual set.second set.station (passes_of counts.now times.now freqs.now) set.params) 0 0 counts.now) }
+    requires { length obs.now.times.now ≤ length out.old }
+    ensures { Filled result (take (length obs.now.times.now) out.new)
+        (passes (residual SECOND obs.now.station (passes_in obs.now) set.now.params) 0 0 obs.now.counts.now) }
 {
-    let second = set.second;
-    let x = set.params;
-    let e = elements_of(x);
-    let sight = orbit::doppler::sight_of(set.station, e);
+    let sight = orbit::doppler::sight_of(obs.station, elements_of(set.params));
     let mut answer = Ok(());
     let mut k = 0usize;
-    'passes: for (p, &count) in counts.iter().enumerate() {
+    'passes: for (p, &count) in obs.counts.iter().enumerate() {
         let first = k;
         let end = first + count as usize;
-        let dt = dt_of(second, x, p);
-        let b = biases_of(second, x, p);
+        let dt = set.dt(p);
+        let b = set.bias(p);
         for j in first..end {
-            match predict_sample(times, turns, sight, dt, b, first, j) {
-                Ok(v) => out[j] = freqs[j] - (set.station.center_freq + v),
+            match obs.shift(sight, dt, b, first, j) {
+                Ok(v) => out[j] = obs.freqs[j] - (obs.station.center_freq + v),
                 Err(far) => {
                     answer = Err(far);
                     break 'passes;
@@ -237,33 +223,12 @@ fn sample_residuals(
     answer
 }
 
-// Writes the penalties on dt from `at` on.
-fn dt_penalties(second: bool, x: [f64; PARAMS], passes: usize, out: &mut [f64], at: usize)
-    requires { (passes ≤ 16) × (at + passes ≤ length out.old) }
-    ensures { take (at + passes) out.new ≡ take at out.old ++ dt_penalties second x 0 passes }
-{
-    for p in 0..passes {
-        out[at + p] = dt_of(second, x, p) * 10.0;
-    }
-}
-
-// Writes the penalties on df1 and df2 from `at` on.
-fn drift_penalties(x: [f64; PARAMS], passes: usize, out: &mut [f64], at: usize)
-    requires { (passes ≤ 16) × (at + 2 * passes ≤ length out.old) }
-    ensures { take (at + 2 * passes) out.new ≡ take at out.old ++ drift_penalties x 0 passes }
-{
-    for p in 0..passes {
-        out[at + 2 * p] = x[4 + 4 * p + 2] * 100.0;
-        out[at + 2 * p + 1] = x[4 + 4 * p + 3] * 10000.0;
-    }
-}
-
 // How many residuals there are.
-pub fn rows_of(second: bool, samples: usize, passes: usize) -> usize
+pub fn rows_of<const SECOND: bool>(samples: usize, passes: usize) -> usize
     requires { (samples ≤ 4096) × (passes ≤ 16) }
-    ensures { (result ≡ rows_of second samples passes) × (result ≤ samples + 3 * passes) }
+    ensures { (result ≡ rows_of SECOND samples passes) × (result ≤ samples + 3 * passes) }
 {
-    if second {
+    if SECOND {
         samples + 3 * passes
     } else {
         samples + passes
@@ -271,26 +236,20 @@ pub fn rows_of(second: bool, samples: usize, passes: usize) -> usize
 }
 
 // Writes the residuals of a set to the first places of out. Refused: 23.
-pub fn residuals_into(
-    set: Point,
-    counts: &[u32],
-    times: &[u64],
-    freqs: &[f64],
-    turns: &[f64],
+pub fn residuals_into<const SECOND: bool>(
+    set: &Point<SECOND>,
+    obs: &Observations,
     out: &mut [f64],
 ) -> Result<(), Refusal>
-    requires { Samples set.station (passes_of counts.now times.now freqs.now) turns.now × (length times.now + 3 * length counts.now ≤ length out.old) }
-    ensures { Filled result (take (rows_of set.second (length times.now) (length counts.now)) out.new)
-        (residuals set.second set.station (passes_of counts.now times.now freqs.now) set.params) }
+    requires { length obs.now.times.now + 3 * length obs.now.counts.now ≤ length out.old }
+    ensures { Filled result (take (rows_of SECOND (length obs.now.times.now) (length obs.now.counts.now)) out.new)
+        (residuals SECOND obs.now.station (passes_in obs.now) set.now.params) }
 {
-    let second = set.second;
-    let x = set.params;
-    sample_residuals(set, counts, times, freqs, turns, out)?;
-    let n = times.len();
-    let m = counts.len();
-    dt_penalties(second, x, m, out, n);
-    if second {
-        drift_penalties(x, m, out, n + m);
+    sample_residuals(set, obs, out)?;
+    let (n, m) = (obs.times.len(), obs.counts.len());
+    set.dt_penalties(&mut out[n..n + m]);
+    if SECOND {
+        set.drift_penalties(m, &mut out[n + m..n + 3 * m]);
     }
     Ok(())
 }
@@ -307,19 +266,15 @@ fn sum_squares(r: &[f64]) -> f64
 }
 
 // What a trial compares, with the residuals left in the first places of out.
-pub fn penalised_sum(
-    set: Point,
-    counts: &[u32],
-    times: &[u64],
-    freqs: &[f64],
-    turns: &[f64],
+pub fn penalised_sum<const SECOND: bool>(
+    set: &Point<SECOND>,
+    obs: &Observations,
     out: &mut [f64],
 ) -> Result<f64, Refusal>
-    requires { Samples set.station (passes_of counts.now times.now freqs.now) turns.now × (length times.now + 3 * length counts.now ≤ length out.old) }
-    ensures { Summed (take (rows_of set.second (length times.now) (length counts.now)) out.new)
-        (residuals set.second set.station (passes_of counts.now times.now freqs.now) set.params) result }
+    requires { length obs.now.times.now + 3 * length obs.now.counts.now ≤ length out.old }
+    ensures { Summed (take (rows_of SECOND (length obs.now.times.now) (length obs.now.counts.now)) out.new)
+        (residuals SECOND obs.now.station (passes_in obs.now) set.now.params) result }
 {
-    residuals_into(set, counts, times, freqs, turns, out)?;
-    let rows = rows_of(set.second, times.len(), counts.len());
-    Ok(sum_squares(&out[..rows]))
+    residuals_into(set, obs, out)?;
+    Ok(sum_squares(&out[..obs.rows::<SECOND>()]))
 }

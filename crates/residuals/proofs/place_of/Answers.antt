@@ -1,13 +1,12 @@
 -- `place_of` meets its contract. Assumes nothing.
-use mathlib.Core.Path.{refl}
+use Rattle.std.proofs.Common.{rules, refl, ne_eqb}
 use Rattle.residuals.specs.Residuals.{place_of}
-use borrow.Author.Rules.{rules}
 use Rattle.residuals.proofs.place_of.Goals as goal
 
-pub returns-then-second : goal.returns-then-second
+pub returns-then-this-ne0 : goal.returns-then-this-ne0
 unfolding place_of
-returns-then-second c = rw c.if-second.true (refl, search rules, search rules)
+returns-then-this-ne0 g c = rw (ne_eqb g.row.SECOND 0 c.if-this-ne0.true) (refl, search rules, search rules)
 
-pub returns-else-second : goal.returns-else-second
+pub returns-else-this-ne0 : goal.returns-else-this-ne0
 unfolding place_of
-returns-else-second c = rw c.if-second.false (refl, search rules, search rules)
+returns-else-this-ne0 g c = rw c.if-this-ne0.false (refl, search rules, search rules)

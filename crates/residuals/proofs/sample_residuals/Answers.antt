@@ -11,43 +11,41 @@ use Rattle.residuals.proofs.Laws.{then_nil, total_next, total_end, residual_is, 
 use Rattle.residuals.proofs.sample_residuals.Goals as goal
 
 pub passes-init : goal.passes-init
-passes-init c = record { clear = refl; left = omega arith; same = refl; whole = then_nil _ }
+passes-init g c = record { clear = refl; left = omega arith; same = refl; whole = then_nil _ }
 
 pub overflow_cast-end : goal.overflow_cast-end
-overflow_cast-end c = omega (arith, c.type_inv.counts c.passes.p)
+overflow_cast-end g c = omega (arith, c.type_inv.count)
 
 pub overflow_add-end : goal.overflow_add-end
-overflow_add-end c =
-    omega (arith, c.requires.0.whole, c.requires.0.small, total_next c.args.counts.now c.passes.p c.passes-test.true)
+overflow_add-end g c =
+    omega (arith, c.args.obs.now.held.whole, c.args.obs.now.held.small, total_next c.args.obs.now.counts.now c.passes.p c.passes-test.true)
 
 pub loop-j-init : goal.loop-j-init
-loop-j-init c =
-    let counts = c.args.counts.now in
+loop-j-init g c =
+    let counts = c.args.obs.now.counts.now in
     let step = total_next counts c.passes.p c.passes-test.true in
     record {
       clear = c.passes.invariant.clear;
       from = omega arith;
       upto = omega arith;
-      inside = omega (arith, step, c.requires.0.whole);
-      small = c.requires.0.small;
-      pairs = c.requires.0.pairs;
-      room = rw c.passes.invariant.same c.requires.1;
+      inside = omega (arith, step, c.args.obs.now.held.whole);
+      small = c.args.obs.now.held.small;
+      pairs = c.args.obs.now.held.pairs;
+      room = rw c.passes.invariant.same c.requires;
       left = omega (arith, step);
       same = refl;
       whole = into_pass _ _ c.passes.out c.passes.p c.passes.k counts c.passes-test.true c.passes.invariant.whole;
     }
 
-pub predict_sample-requires : goal.predict_sample-requires
-predict_sample-requires c =
-    let pre = c.requires in (
-      sight_sound _ _ c.sight_of-sight.ensures.0 pre.0.epoch,
-      pre.0.turned,
-      omega (arith, c.loop-j.invariant.from, c.loop-j.invariant.inside, c.loop-j-test.true),
-      omega (arith, c.loop-j.invariant.inside, c.loop-j-test.true),
-    )
+pub shift-requires : goal.shift-requires
+shift-requires g c = (
+  sight_sound _ _ c.sight_of-sight.ensures.0 c.args.obs.now.held.epoch,
+  omega (arith, c.loop-j.invariant.from, c.loop-j.invariant.inside, c.loop-j-test.true),
+  omega (arith, c.loop-j.invariant.inside, c.loop-j-test.true),
+)
 
 pub loop-j-preserved : goal.loop-j-preserved
-loop-j-preserved c =
+loop-j-preserved g c =
     record {
       clear = c.loop-j.invariant.clear;
       from = omega arith;
@@ -61,12 +59,12 @@ loop-j-preserved c =
       whole =
           next_sample _ _ c.loop-j.out _ _ c.loop-j.j _ _ _ c.loop-j-test.true
           (omega (arith, c.loop-j.invariant.inside, c.loop-j.invariant.room, c.loop-j-test.true))
-          (residual_is _ _ _ _ _ _ _ _ _ _ _ c.elements_of-e.ensures c.dt_of-dt.ensures c.biases_of-b.ensures (seen_prediction _ _ _ _ _ _ _ _ c.sight_of-sight.ensures c.predict_sample.ensures) _ c.in-Ok.is)
+          (residual_is _ _ _ _ _ _ _ _ _ _ _ c.elements_of.ensures c.dt-dt.ensures c.bias-b.ensures (seen_prediction _ _ _ _ _ _ _ _ c.sight_of-sight.ensures c.shift.ensures) _ c.in-Ok.is)
           c.loop-j.invariant.whole;
     }
 
 pub passes-preserved : goal.passes-preserved
-passes-preserved c =
+passes-preserved g c =
     record {
       clear = c.loop-j.invariant.clear;
       left = omega arith;
@@ -75,16 +73,16 @@ passes-preserved c =
     }
 
 pub returns-after-passes : goal.returns-after-passes
-returns-after-passes c =
+returns-after-passes g c =
     let args = c.args in
-    let end : c.passes.k ≡ length args.times.now = omega (arith, c.requires.0.whole, total_end args.counts.now c.passes.p c.passes-test.false) in
+    let end : c.passes.k ≡ length args.obs.now.times.now = omega (arith, c.args.obs.now.held.whole, total_end args.obs.now.counts.now c.passes.p c.passes-test.false) in
     let whole = ap (λ (n : ℕ). some (take n c.passes.out)) (sym end) ∙ past_passes _ _ _ c.passes.p _ _ c.passes-test.false c.passes.invariant.whole in
     rw c.passes.invariant.clear (all_filled whole)
 
 pub returns-in-Err : goal.returns-in-Err
-returns-in-Err c =
-    let pred = seen_prediction _ _ _ _ _ _ _ _ c.sight_of-sight.ensures c.predict_sample.ensures in
+returns-in-Err g c =
+    let pred = seen_prediction _ _ _ _ _ _ _ _ c.sight_of-sight.ensures c.shift.ensures in
     far_filled (too_far _ _ (take c.loop-j.j c.loop-j.out) _ _ c.loop-j.j _ _ c.loop-j-test.true
-    (residual_far _ _ _ _ _ _ _ _ _ _ _ c.elements_of-e.ensures c.dt_of-dt.ensures c.biases_of-b.ensures pred _ c.in-Err.is)
+    (residual_far _ _ _ _ _ _ _ _ _ _ _ c.elements_of.ensures c.dt-dt.ensures c.bias-b.ensures pred _ c.in-Err.is)
     c.loop-j.invariant.whole)
     (only_far _ _ _ _ _ _ _ pred _ c.in-Err.is)

@@ -10,8 +10,9 @@ use Rattle.refusal.specs.declared.Refusal.{Refusal}
 use lib.ListN.{length, take, drop}
 use lib.Ieee.{Float}
 use Rattle.pass_set.specs.PassSet.{total}
-use Rattle.residuals.specs.Samples.{passes_of}
 use Rattle.residuals.specs.Residuals.{◌then◌, residual, samples, passes}
+use Rattle.residuals.specs.Answers.{passes_in}
+use Rattle.residuals.proofs.Laws.{flag}
 use Rattle.residuals.proofs.sample_residuals.Given as goal
 
 -- at the head of the loop over passes: p and k are where the next pass and its samples stand
@@ -35,9 +36,9 @@ pub record Inner (one : ℕ → ℕ → ℕ → _) (counts times : List ℕ) (fr
   pub whole : (some (take j out) then (samples one p first j (end - j) then passes one (p + 1) end (drop (p + 1) counts))) ≡ passes one 0 0 counts
 
 abbrev pub invariant-loop-j : goal.invariant-loop-j
-invariant-loop-j l =
-    Inner (residual l.set.second l.set.station (passes_of l.counts l.times l.freqs) l.set.params) l.counts l.times l.freqs l.initial.out l.p l.first l.end l.out l.answer l.j
+invariant-loop-j g l =
+    Inner (residual (flag g.row.SECOND) l.obs.station (passes_in l.obs) l.set.params) l.obs.counts.now l.obs.times.now l.obs.freqs.now l.initial.out l.p l.first l.end l.out l.answer l.j
 
 abbrev pub invariant-passes : goal.invariant-passes
-invariant-passes l =
-    Outer (residual l.set.second l.set.station (passes_of l.counts l.times l.freqs) l.set.params) l.counts l.initial.out l.out l.answer l.k l.p
+invariant-passes g l =
+    Outer (residual (flag g.row.SECOND) l.obs.station (passes_in l.obs) l.set.params) l.obs.counts.now l.initial.out l.out l.answer l.k l.p

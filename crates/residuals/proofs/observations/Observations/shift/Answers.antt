@@ -1,7 +1,7 @@
 -- `predict_sample` meets its contract. Assumes nothing.
 use Rattle.residuals.proofs.Samples.{predicts}
 use borrow.Author.Rules.{rules}
-use Rattle.residuals.proofs.predict_sample.Goals as goal
+use Rattle.residuals.proofs.observations.Observations.shift.Goals as goal
 
 pub returns : goal.returns
 returns c = search (rules, predicts)
