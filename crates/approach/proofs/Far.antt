@@ -1,6 +1,6 @@
 -- Inside the sums no adjusted moment is too far: dt is a difference of two moments near the range, and the correction is at
 -- most 2^63 ns. Assumes nothing.
-use mathlib.Core.Path.{◌≡◌, refl, sym, ap, ◌∙◌}
+use mathlib.Core.Path.{◌≡◌, refl, ◌∙◌}
 use mathlib.Core.Bool.{false}
 use Prim.Native.Nat.{ℕ, suc, ◌+◌, ◌-◌, ◌*◌, ◌≤◌, ◌<◌}
 use native.Mathlib.Omega.{arith}
@@ -19,16 +19,13 @@ use Rattle.moment.proofs.Shifts.{shift_micros}
 use Rattle.frame.specs.Rotation.{turn_at}
 use Rattle.orbit.specs.declared.Elements.{Elements}
 use Rattle.orbit.specs.declared.doppler.Station.{Station}
-use Rattle.orbit.specs.declared.doppler.Sight.{Sight}
 use Rattle.std.proofs.Common.{Result, Ok}
 use Rattle.std.specs.Result.{IsOk}
 use Rattle.refusal.specs.declared.Refusal.{Refusal}
-use Rattle.orbit.specs.Orbit.{propagated_of}
-use Rattle.orbit.specs.Doppler.{adjusted_of, corrected_of, drift_of, epoch_count, sight_of, predicted_at, predicted_hoisted, frequency_of}
-use Rattle.orbit.proofs.Predicts.{accepted}
-use Rattle.orbit.proofs.Hoisted.{predicted_at_lem}
+use Rattle.orbit.specs.Orbit.{ecef_at}
+use Rattle.orbit.specs.Doppler.{adjusted_of, corrected_of, drift_of, epoch_count, predicted_of, frequency_of}
 use Rattle.approach.specs.Sums.{prediction_at, Shifted}
-use Rattle.approach.specs.Turns.{reach, Seen, Shift}
+use Rattle.approach.specs.Turns.{reach, Shift}
 
 -- ---- a moment moved by a little
 
@@ -63,35 +60,26 @@ shift p o v w e = record { to = nanos_of p.secs p.nanos; from = nanos_of o.secs 
 module _ (g : Station) (e : Elements) (dt : Float) (t : Instant) where
   -- none is refused
   pub never_far : Shift dt → Within 0 t.secs t.nanos → prediction_at g e dt t ≡ Ok (frequency_of (prediction_at g e dt t))
-  unfolding prediction_at
+  unfolding prediction_at predicted_of
   never_far s w =
-      let v = sight_of g e in
-      let from = epoch_count v.station in
+      let from = epoch_count g in
       let at = nanos_of t.secs t.nanos in
       let turn = turn_at t.secs t.nanos in
       let n = adjusted_of at dt in
-      let first = propagated_of v.e v.k (tau_of n from) turn in
+      let first = ecef_at e.a e.i e.raan0 e.u0 (tau_of n from) turn in
       let m = corrected_of n first in
       let micros = rw (← s.is) at (shift_micros s.to s.from s.after s.before) in
       let a : Near 4000000000000000000 at n = moved 4000000000000000000 at 1000 _ (omega (arith, micros)) in
       let b : Near 9223372036854775808 n m = moved 9223372036854775808 n 1 (to_signed 63 (drift_of first)) (size (to_signed 63 (drift_of first)) (to_signed_in 63 (drift_of first))) in
-      let q = accepted v at turn dt (bits 0) (bits 0) (over_of n) (over_of m) n m _ _ first _ _ _
-      refl refl (not_over n (omega (arith, a.low)) (omega (arith, a.high))) refl refl refl refl refl
-      (not_over m (omega (arith, a.low, b.low)) (omega (arith, a.high, b.high))) refl refl refl
-      ∙ predicted_hoisted g e at turn dt (bits 0) (bits 0) in
-      sym q ∙ ap (λ (p : Result Float Refusal). Ok (frequency_of p)) q
+      simp (not_over n (omega (arith, a.low)) (omega (arith, a.high)), not_over m (omega (arith, a.low, b.low)) (omega (arith, a.high, b.high)))
 
--- what is worked out before is the definition's
-module _ (v : Sight) (dt : Float) (t : Instant) (turn : SinCos) where
-  predicts : Seen v → turn ≡ turn_at t.secs t.nanos → (r : Result Float Refusal)
-      → r ≡ predicted_at v (nanos_of t.secs t.nanos) turn dt (bits 0) (bits 0) → r ≡ prediction_at v.station v.e dt t
+module _ (g : Station) (e : Elements) (dt : Float) (t : Instant) (turn : SinCos) (h : turn ≡ turn_at t.secs t.nanos) where
+  predicts : (r : Result Float Refusal) → r ≡ predicted_of g e (nanos_of t.secs t.nanos) turn dt (bits 0) (bits 0) → r ≡ prediction_at g e dt t
   unfolding prediction_at
-  predicts d h r q = predicted_at_lem v.station v.e _ turn _ dt (bits 0) (bits 0) v r h d.is q
+  predicts r q = rw h at q
 
-  pub shifted : Seen v → turn ≡ turn_at t.secs t.nanos → (f : Float)
-      → Ok f ≡ predicted_at v (nanos_of t.secs t.nanos) turn dt (bits 0) (bits 0) → Shifted f (prediction_at v.station v.e dt t)
-  shifted d h f q = record { is = predicts d h (Ok f) q }
+  pub shifted : (f : Float) → Ok f ≡ predicted_of g e (nanos_of t.secs t.nanos) turn dt (bits 0) (bits 0) → Shifted f (prediction_at g e dt t)
+  shifted f q = record { is = predicts (Ok f) q }
 
-  pub answered : Seen v → turn ≡ turn_at t.secs t.nanos → Shift dt → Within 0 t.secs t.nanos → (r : Result Float Refusal)
-      → r ≡ predicted_at v (nanos_of t.secs t.nanos) turn dt (bits 0) (bits 0) → IsOk r
-  answered d h s w r q = rw (predicts d h r q ∙ never_far v.station v.e dt t s w) refl
+  pub answered : Shift dt → Within 0 t.secs t.nanos → (r : Result Float Refusal) → r ≡ predicted_of g e (nanos_of t.secs t.nanos) turn dt (bits 0) (bits 0) → IsOk r
+  answered s w r q = rw (predicts r q ∙ never_far g e dt t s w) refl

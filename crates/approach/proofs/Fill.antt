@@ -2,20 +2,21 @@
 use mathlib.Core.Path.{◌≡◌, refl, sym, ◌∙◌}
 use mathlib.Core.Logic.{◌⊎◌, inl, inr}
 use mathlib.Core.List.{List}
-use Prim.Native.Nat.{ℕ, ◌+◌, ◌-◌, ◌*◌, ◌≤◌, ◌<◌}
+use Prim.Native.Nat.{ℕ, ◌+◌, ◌*◌, ◌≤◌, ◌<◌}
 use native.Mathlib.Nat.{eq-or-lt_of_le}
 use native.Mathlib.Omega.{arith}
 use lib.IntN.{ℤ}
-use lib.ListN.{length, get_or, set, take, drop, length-set}
+use lib.ListN.{length, get_or, set, length-set}
 use lib.Seq.{get_or-set_same, get_or-set_other}
 use lib.Ieee.{Float, nan}
+use Rattle.std.proofs.Common.{Some}
 use Rattle.moment.specs.declared.Instant.{Instant}
 use Rattle.frame.specs.Rotation.{turn_at}
 use Rattle.float.specs.declared.trig.SinCos.{SinCos}
-use Rattle.pass_set.specs.PassSet.{pass_of, count_of, total, AtPass}
-use Rattle.pass_set.proofs.Laws.{start_zero, start_last, pass_part}
+use Rattle.pass_set.specs.PassSet.{pass_of, total, SoundSet}
+use Rattle.pass_set.proofs.Laws.{start_zero, start_last}
 use Rattle.approach.specs.Pca.{obs_pca_time}
-use Rattle.approach.specs.Turns.{entries, SoundSet, Entry, Held, Window, window, Windowed, Tabled, put_turn, Kept, Entered, window_moment, moments, PassWritten, SetWritten}
+use Rattle.approach.specs.Turns.{entries, Entry, Held, Window, window, Windowed, Tabled, put_turn, Kept, Entered, window_moment, moments, PassWritten, SetWritten}
 
 -- ---- one entry
 
@@ -61,11 +62,14 @@ keep_entry : {at j secs nanos : ℕ} {old new : List Float} → Kept at old new 
 keep_entry {at} {j} k h e =
     record { room = rw k.same e.room; sine = k.below (2 * j) (omega arith) ∙ e.sine; cosine = k.below (2 * j + 1) (omega arith) ∙ e.cosine }
 
-keep_held : {at j secs nanos : ℕ} {old new : List Float} → Kept at old new → j < at → Held old j secs nanos → Held new j secs nanos
-keep_held k h e = record { entry = λ some. keep_entry k h (e.entry (rw (← k.same) some)) }
+held : {j secs nanos : ℕ} {table : List Float} → Entry table j secs nanos → Held (Some table) j secs nanos
+held {table = table} h = record { entry = λ t e. let q : table ≡ t = cc in rw q at h }
+
+keep_held : {at j secs nanos : ℕ} {old new : List Float} → Kept at old new → j < at → Held (Some old) j secs nanos → Held (Some new) j secs nanos
+keep_held {old = old} k h e = held (keep_entry k h (e.entry old refl))
 
 pub keep_windowed : {at more : ℕ} {center : Float} {times : List ℤ} {freqs old new : List Float} → Kept more old new → at + entries ≤ more
-    → Windowed old at center times freqs → Windowed new at center times freqs
+    → Windowed (Some old) at center times freqs → Windowed (Some new) at center times freqs
 keep_windowed k h w = record { seen = λ some. record { small = (w.seen some).small; each = λ j l. keep_held k (omega (arith, h, l)) ((w.seen some).each j l) } }
 
 -- ---- a loop's entries
@@ -96,29 +100,28 @@ module _ (t : ℕ → Instant) (at : ℕ) where
 pub pass_none : (at : ℕ) (center : Float) (times : List ℤ) (freqs table : List Float) → length freqs ≡ 0 → PassWritten at center times freqs table table
 pass_none at center times freqs table e = record { kept = kept_none at table; windowed = record { seen = λ h. absurd (omega (arith, h, e)) } }
 
-seconds_window : (at : ℕ) (m : Instant) (old new : List Float) → at ≤ 100000 → Entered (window_moment m) at entries old new → Window new at (window m) m.nanos
-seconds_window at m old new h w = record { small = h; each = λ j l. record { entry = λ _. w.each j l } }
+seconds_window : (at : ℕ) (m : Instant) (old new : List Float) → at ≤ 100000 → Entered (window_moment m) at entries old new → Window (Some new) at (window m) m.nanos
+seconds_window at m old new h w = record { small = h; each = λ j l. held (w.each j l) }
 
 pub pass_filled : (at : ℕ) (center : Float) (times : List ℤ) (freqs old new : List Float) (m : Instant) → m ≡ obs_pca_time times freqs center → at ≤ 100000
     → Entered (window_moment m) at entries old new → PassWritten at center times freqs old new
 pass_filled at center times freqs old new m e h w = record { kept = w.kept; windowed = record { seen = λ _. rw (← e) (seconds_window at m old new h w) } }
 
--- of the part from k on
-pub part_written : {at : ℕ} {center : Float} {counts : List ℕ} (times : List ℤ) (freqs : List Float) {old new : List Float} {p k : ℕ} → AtPass counts p k
-    → PassWritten at center (take (k + count_of counts p - k) (drop k times)) (take (k + count_of counts p - k) (drop k freqs)) old new
-    → PassWritten at center (pass_of counts p times) (pass_of counts p freqs) old new
-part_written times freqs a w = rw (pass_part times a, pass_part freqs a) at w
+-- of pass p
+pub pass_written : {at : ℕ} {center : Float} (counts : List ℕ) (times : List ℤ) (freqs : List Float) {t : List ℤ} {f old new : List Float} (p : ℕ)
+    → t ≡ pass_of counts p times → f ≡ pass_of counts p freqs → PassWritten at center t f old new → PassWritten at center (pass_of counts p times) (pass_of counts p freqs) old new
+pass_written counts times freqs p a b w = rw (a, b) at w
 
 -- the windows of the first passes
 pub record Windows (table : List Float) (first : Float) (counts : List ℕ) (times : List ℤ) (freqs : List Float) (p : ℕ) : Type 0 where
-  pub each : (q : ℕ) → q < p → Windowed table (entries * q) first (pass_of counts q times) (pass_of counts q freqs)
+  pub each : (q : ℕ) → q < p → Windowed (Some table) (entries * q) first (pass_of counts q times) (pass_of counts q freqs)
 
 module _ (first : Float) (counts : List ℕ) (times : List ℤ) (freqs : List Float) where
   pub windows_none : (table : List Float) → Windows table first counts times freqs 0
   windows_none table = record { each = λ q h. absurd (omega (arith, h)) }
 
   window_more : (p q : ℕ) (old new : List Float) → PassWritten (entries * p) first (pass_of counts p times) (pass_of counts p freqs) old new → Windows old first counts times freqs p
-      → (q ≡ p) ⊎ (q < p) → Windowed new (entries * q) first (pass_of counts q times) (pass_of counts q freqs)
+      → (q ≡ p) ⊎ (q < p) → Windowed (Some new) (entries * q) first (pass_of counts q times) (pass_of counts q freqs)
   window_more p q old new w a (inl e) = rw e w.windowed
   window_more p q old new w a (inr l) = keep_windowed w.kept (omega (arith, l)) (a.each q l)
 
@@ -127,11 +130,11 @@ module _ (first : Float) (counts : List ℕ) (times : List ℤ) (freqs : List Fl
   windows_more p old new w a = record { each = λ q h. let m : q ≤ p = omega arith in window_more p q old new w a (eq-or-lt_of_le m) }
 
   pub tabled : (old new : List Float) → length counts ≤ 16 → Windows old first counts times freqs (length counts) → Entered (moments times) (entries * length counts) (length times) old new
-      → Tabled new first counts times freqs
+      → Tabled (Some new) first counts times freqs
   tabled old new few a w =
       record {
         windows = λ p h. keep_windowed w.kept (omega (arith, h)) (a.each p h);
-        samples = record { small = omega arith; each = λ j l. record { entry = λ _. w.each j l } };
+        samples = record { small = omega arith; each = λ j l. held (w.each j l) };
       }
 
 no_samples : (counts : List ℕ) → length counts ≡ 0 → total counts ≡ 0

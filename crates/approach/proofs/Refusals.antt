@@ -17,44 +17,20 @@ use Rattle.moment.specs.declared.Instant.{Instant}
 use Rattle.moment.specs.Range.{given_of}
 use Rattle.moment.specs.Sample.{times_in_range}
 use Rattle.moment.proofs.Ranges.{at_is, outside}
-use Rattle.moment.proofs.Samples.{both, timed}
+use Rattle.moment.proofs.Samples.{both}
 use Rattle.pass_set.specs.PassSet.{sizes_agree}
-use Rattle.pass_set.proofs.Laws as set
 use Rattle.frame.specs.declared.Vec3.{Vec3}
 use Rattle.orbit.specs.declared.doppler.Station.{Station}
 use Rattle.orbit.specs.Doppler.{station_at}
-use Rattle.approach.specs.Turns.{SoundSet}
 use Rattle.approach.specs.Answers.{set_refusal_of, sum_refusal, pca_refusal_of}
 
 -- ---- a refusal and an answer say each other
-
-refused : {A : Type 0} (o : Option Refusal) (a : A) (x : Refusal) → Err x ≡ answer o a → o ≡ Some x
-refused None a x h = absurd cc
-refused (Some r) a x h = cc
-
-accepted : {A : Type 0} (o : Option Refusal) (a b : A) → Ok b ≡ answer o a → o ≡ None
-accepted None a b h = refl
-accepted (Some r) a b h = absurd cc
 
 pub err : {A : Type 0} {o : Option Refusal} {x : Refusal} (a : A) → o ≡ Some x → Err x ≡ answer o a
 err a e = rw e
 
 pub ok : {A : Type 0} {o : Option Refusal} (a : A) → o ≡ None → Ok a ≡ answer o a
 ok a e = rw e
-
--- ---- a pass set
-
-none_given : (a b : Bool) → first_of ((MomentRange when not a) ∷ (Sizes when not b) ∷ []) ≡ None → (a ≡ true) × (b ≡ true)
-none_given true true e = (refl, refl)
-none_given true false e = absurd cc
-none_given false b e = absurd cc
-
--- no refusal: the samples are in range, and the sizes agree
-pub accepted_set : (counts : List ℕ) (times : List ℤ) (freqs centers : List Float) (u : Unit {0}) → Ok u ≡ answer (set_refusal_of counts times freqs centers) tt → SoundSet counts times freqs centers
-unfolding set_refusal_of
-accepted_set counts times freqs centers u h =
-    let s = none_given (times_in_range times) (sizes_agree counts (length times) (length freqs) (length centers)) (accepted _ _ _ h) in
-    record { sizes = set.sizes s.1; timed = timed s.0 }
 
 -- ---- an epoch before it, and an output after it
 
@@ -84,11 +60,11 @@ module _ (epoch : Moment) (counts : List ℕ) (times : List ℤ) (freqs centers 
     unfolding sum_refusal set_refusal_of
     epoch_in = simp (at_is epoch.seconds epoch.nanos i g).yes
 
-    pub set_out : (x : Refusal) → Err x ≡ answer {A = Unit {0}} (set_refusal_of counts times freqs centers) tt → sum_refusal epoch counts times freqs centers ≡ Some x
-    set_out x h = epoch_in ∙ refused _ _ _ h
+    pub set_out : (x : Refusal) → set_refusal_of counts times freqs centers ≡ Some x → sum_refusal epoch counts times freqs centers ≡ Some x
+    set_out x h = epoch_in ∙ h
 
-    pub set_in : (u : Unit {0}) → Ok u ≡ answer (set_refusal_of counts times freqs centers) tt → sum_refusal epoch counts times freqs centers ≡ None
-    set_in u h = epoch_in ∙ accepted _ _ _ h
+    pub set_in : set_refusal_of counts times freqs centers ≡ None → sum_refusal epoch counts times freqs centers ≡ None
+    set_in h = epoch_in ∙ h
 
     -- the tests of the set, and of the room
     abbrev late : Bool
@@ -100,14 +76,14 @@ module _ (epoch : Moment) (counts : List ℕ) (times : List ℤ) (freqs centers 
     abbrev room_last : (room : ℕ) → List Check
     room_last room = (ShortMemory when ltb room (length counts)) ∷ []
 
-    pub pca_set_out : (room : ℕ) (x : Refusal) → Err x ≡ answer {A = Unit {0}} (set_refusal_of counts times freqs centers) tt → pca_refusal_of epoch counts times freqs centers room ≡ Some x
+    pub pca_set_out : (room : ℕ) (x : Refusal) → set_refusal_of counts times freqs centers ≡ Some x → pca_refusal_of epoch counts times freqs centers room ≡ Some x
     unfolding set_refusal_of pca_refusal_of
-    pca_set_out room x h = simp (at_is epoch.seconds epoch.nanos i g).yes (refused_before late odd (room_last room) x (refused _ _ _ h))
+    pca_set_out room x h = simp (at_is epoch.seconds epoch.nanos i g).yes (refused_before late odd (room_last room) x h)
 
-    module _ (u : Unit {0}) (h : Ok u ≡ answer (set_refusal_of counts times freqs centers) tt) where
+    module _ (h : set_refusal_of counts times freqs centers ≡ None) where
       pca_in : (room : ℕ) → pca_refusal_of epoch counts times freqs centers room ≡ first_of (room_last room)
       unfolding set_refusal_of pca_refusal_of
-      pca_in room = simp (at_is epoch.seconds epoch.nanos i g).yes (left_after late odd (room_last room) (accepted _ _ _ h))
+      pca_in room = simp (at_is epoch.seconds epoch.nanos i g).yes (left_after late odd (room_last room) h)
 
       pub pca_short : (room : ℕ) → room < length counts → pca_refusal_of epoch counts times freqs centers room ≡ Some ShortMemory
       pca_short room l = pca_in room ∙ rw (lt-ltb room (length counts) l)

@@ -6,6 +6,7 @@ use native.Mathlib.Nat.{mul-le-mul_left, mul-suc}
 use native.Mathlib.Omega.{arith}
 use mathlib.Core.List.{List}
 use lib.Ieee.{Float, lt}
+use Rattle.std.proofs.Common.{Option}
 use Rattle.float.specs.declared.trig.SinCos.{SinCos}
 use Rattle.moment.specs.Time.{nanos_of, tau_of}
 use Rattle.moment.specs.Range.{Within}
@@ -14,25 +15,21 @@ use Rattle.frame.specs.Rotation.{turn_at}
 use Rattle.orbit.specs.declared.Elements.{Elements}
 use Rattle.orbit.specs.declared.doppler.Station.{Station}
 use Rattle.orbit.specs.declared.doppler.Sight.{Sight}
-use Rattle.orbit.specs.Orbit.{rates_of, propagated_of}
-use Rattle.orbit.specs.Doppler.{epoch_count, sight_of}
+use Rattle.orbit.specs.Orbit.{propagated_of}
+use Rattle.orbit.specs.Doppler.{epoch_count}
 use Rattle.orbit.proofs.Hoisted.{propagated_at}
 use Rattle.approach.specs.declared.Closest.{Closest}
 use Rattle.approach.specs.declared.Stage.{Stage}
 use Rattle.approach.specs.Pca.{square_of, square_at, closer_of}
-use Rattle.approach.specs.Turns.{reach, Seen, Around, Beside, Held, Window}
+use Rattle.approach.specs.Turns.{reach, Around, Beside, Held, Window}
 
 -- ---- one moment
 
-seen_rates : (v : Sight) → v ≡ sight_of v.station v.e → v.k ≡ rates_of v.e
-unfolding sight_of
-seen_rates v h = ap (λ (x : Sight). x.k) h
-
-module _ (v : Sight) (secs nanos : ℕ) (s : Closest) (turn : SinCos) (tau : Float) (st : State) (d : Float) (a : Seen v)
+module _ (v : Sight) (secs nanos : ℕ) (s : Closest) (turn : SinCos) (tau : Float) (st : State) (d : Float)
     (h : turn ≡ turn_at secs nanos) (g : tau ≡ tau_of (nanos_of secs nanos) (epoch_count v.station)) (p : st ≡ propagated_of v.e v.k tau turn) (q : d ≡ square_of st v.station.rec_ecef) where
   square_is : d ≡ square_at v.station v.e secs nanos
   unfolding square_at
-  square_is = rw (← g, ← h) (q ∙ ap (λ (x : State). square_of x v.station.rec_ecef) (propagated_at v.e v.k tau turn st (seen_rates v a.is) p))
+  square_is = rw (← g, ← h) (q ∙ ap (λ (x : State). square_of x v.station.rec_ecef) (propagated_at v.e v.k tau turn st v.rates p))
 
   pub closer_taken : lt d s.dist ≡ true → ◌≡◌ {A = Closest} (record { dist = d; secs = secs }) (closer_of v.station v.e nanos secs s)
   unfolding closer_of
@@ -65,7 +62,7 @@ pub inside_within : {base : ℕ} {w : Stage} {secs nanos : ℕ} (x : ℕ) → Ar
 inside_within x a i = record { low = omega arith; high = omega arith; part = a.part }
 
 -- its entry
-pub inside_held : {table : List Float} {at base half nanos secs : ℕ} (x : ℕ) → Window table at base nanos → Inside base half secs x → Held table (at + (x - base)) x nanos
+pub inside_held : {table : Option (List Float)} {at base half nanos secs : ℕ} (x : ℕ) → Window table at base nanos → Inside base half secs x → Held table (at + (x - base)) x nanos
 inside_held {table} {at} {base} {half} {nanos} {secs} x w i =
     let e : base + (x - base) ≡ x = omega arith in
     rw e at (w.each (x - base) (omega arith))

@@ -1,5 +1,5 @@
 -- What the calls answer and write, for every input.
-use Rattle.std.specs.Prelude.{◌≡◌, not, List, [], ◌∷◌, ℕ, ltb, ℤ, length, Float, Option, Result, ⊤}
+use Rattle.std.specs.Prelude.{◌≡◌, not, List, [], ◌∷◌, ℕ, ltb, ℤ, length, Float, Option, None, Result, ⊤}
 use Rattle.refusal.specs.Refusals.{Check, ◌when◌, first_of, answer, written}
 use Rattle.refusal.specs.declared.Refusal.{Refusal}
 use Rattle.refusal.specs.declared.Refusal.TheVariants.{MomentRange, Sizes, ShortMemory}
@@ -8,6 +8,7 @@ use Rattle.moment.specs.declared.Moment.{Moment}
 use Rattle.moment.specs.Range.{taken}
 use Rattle.moment.specs.Sample.{times_in_range}
 use Rattle.pass_set.specs.PassSet.{sizes_agree}
+use Rattle.pass_set.specs.declared.PassSet.{PassSet}
 use Rattle.frame.specs.declared.Vec3.{Vec3}
 use Rattle.orbit.specs.declared.Elements.{Elements}
 use Rattle.orbit.specs.Doppler.{station_at}
@@ -35,6 +36,14 @@ sum_refusal epoch counts times freqs centers = first_of (input_refusals epoch co
 -- 21: the output is shorter than the passes
 unfoldable pub pca_refusal_of : (epoch : Moment) (counts : List ℕ) (times : List ℤ) (freqs centers : List Float) (room : ℕ) → Option Refusal
 pca_refusal_of epoch counts times freqs centers room = first_of (input_refusals epoch counts times freqs centers ((ShortMemory when ltb room (length counts)) ∷ []))
+
+-- what is accepted has the slices given
+pub record Accepts (counts : List ℕ) (times : List ℤ) (freqs centers : List Float) (s : PassSet) : Type 0 where
+  pub accepted : set_refusal_of counts times freqs centers ≡ None
+  pub counts_are : s.counts.now ≡ counts
+  pub times_are : s.times.now ≡ times
+  pub freqs_are : s.freqs.now ≡ freqs
+  pub centers_are : s.centers.now ≡ centers
 
 -- ---- answers: a refusal, or what is worked out
 

@@ -1,18 +1,16 @@
--- What the inner functions ask: samples and orbits that passed the refusals, and a table of the Earth's rotations. The rotation
+-- What the inner functions ask, and a table of the Earth's rotations. The rotation
 -- at a moment does not depend on the orbit, so that a search works it out once and reads it for each of its sums. A table has
 -- two numbers an entry, sine and cosine; for each pass 1,245 entries, the seconds from 622 before its observed closest moment
--- to 622 after, then one for each sample. An empty table stands for none: then each rotation is worked out where it is used.
-use Rattle.std.specs.Prelude.{◌≡◌, List, ℕ, ◌+◌, ◌-◌, ◌*◌, ◌≤◌, ◌<◌, ℤ, pos, length, get_or, set, Float}
+-- to 622 after, then one for each sample. With none each rotation is worked out where it is used.
+use Rattle.std.specs.Prelude.{◌≡◌, List, ℕ, ◌+◌, ◌-◌, ◌*◌, ◌≤◌, ◌<◌, ℤ, pos, length, get_or, set, Float, Option, None, Some}
+use Rattle.std.specs.Borrow.{Bor}
 use Rattle.std.specs.Float.{nan}
 use Rattle.moment.specs.Origin.{per_second, start1957, start2057}
 use Rattle.moment.specs.declared.Instant.{Instant}
 use Rattle.moment.specs.Time.{tau_millis_of}
-use Rattle.moment.specs.Range.{Within}
-use Rattle.moment.specs.Sample.{Timed, instant_at}
-use Rattle.pass_set.specs.PassSet.{Sizes, pass_of}
+use Rattle.moment.specs.Sample.{instant_at}
+use Rattle.pass_set.specs.PassSet.{pass_of}
 use Rattle.frame.specs.Rotation.{turn_at}
-use Rattle.orbit.specs.declared.doppler.Sight.{Sight}
-use Rattle.orbit.specs.Doppler.{sight_of}
 use Rattle.approach.specs.declared.Stage.{Stage}
 use Rattle.approach.specs.Pca.{obs_pca_time}
 
@@ -22,22 +20,6 @@ reach = 622
 
 abbrev pub entries : ℕ
 entries = 1245
-
--- of an orbit seen from a station: what is worked out before, and an epoch that passed refusal 4
-pub record Seen (v : Sight) : Type 0 where
-  pub is : v ≡ sight_of v.station v.e
-  pub within : Within 0 v.station.epoch.secs v.station.epoch.nanos
-
--- of one pass's samples
-pub record PassSamples (times : List ℤ) (freqs : List Float) : Type 0 where
-  pub pairs : length freqs ≡ length times
-  pub few : length times ≤ 4096
-  pub timed : Timed times
-
--- of a pass set: it passed refusals 4 and 5
-pub record SoundSet (counts : List ℕ) (times : List ℤ) (freqs centers : List Float) : Type 0 where
-  pub sizes : Sizes counts (length times) (length freqs) (length centers)
-  pub timed : Timed times
 
 -- of a pass's dt: it is the difference of two moments, counted in nanoseconds, less than 4·10^9 s apart
 pub record Shift (dt : Float) : Type 0 where
@@ -70,12 +52,17 @@ pub record Entry (table : List Float) (j secs nanos : ℕ) : Type 0 where
   pub sine : get_or table (2 * j) nan ≡ (turn_at secs nanos).sin
   pub cosine : get_or table (2 * j + 1) nan ≡ (turn_at secs nanos).cos
 
+-- a table's numbers, if there is one
+abbrev pub listed : Option (Bor (List Float)) → Option (List Float)
+listed None = None
+listed (Some turns) = Some turns.now
+
 -- so, if there is a table
-pub record Held (table : List Float) (j secs nanos : ℕ) : Type 0 where
-  pub entry : 0 < length table → Entry table j secs nanos
+pub record Held (table : Option (List Float)) (j secs nanos : ℕ) : Type 0 where
+  pub entry : (turns : List Float) → table ≡ Some turns → Entry turns j secs nanos
 
 -- the window: 1,245 entries from at on are for the seconds from base on
-pub record Window (table : List Float) (at base nanos : ℕ) : Type 0 where
+pub record Window (table : Option (List Float)) (at base nanos : ℕ) : Type 0 where
   pub small : at ≤ 100000
   pub each : (j : ℕ) → j < entries → Held table (at + j) (base + j) nanos
 
@@ -84,16 +71,16 @@ abbrev pub window : Instant → ℕ
 window t = t.secs - reach
 
 -- one pass's window, around its observed closest moment by a centre
-pub record Windowed (table : List Float) (at : ℕ) (center : Float) (times : List ℤ) (freqs : List Float) : Type 0 where
+pub record Windowed (table : Option (List Float)) (at : ℕ) (center : Float) (times : List ℤ) (freqs : List Float) : Type 0 where
   pub seen : 0 < length freqs → Window table at (window (obs_pca_time times freqs center)) (obs_pca_time times freqs center).nanos
 
 -- the sample times' entries, from at on
-pub record Sampled (table : List Float) (at : ℕ) (times : List ℤ) : Type 0 where
+pub record Sampled (table : Option (List Float)) (at : ℕ) (times : List ℤ) : Type 0 where
   pub small : at ≤ 100000
   pub each : (j : ℕ) → j < length times → Held table (at + j) (instant_at (get_or times j (pos 0))).secs (instant_at (get_or times j (pos 0))).nanos
 
 -- a pass set's table; first is the centre by which the observed moments are chosen
-pub record Tabled (table : List Float) (first : Float) (counts : List ℕ) (times : List ℤ) (freqs : List Float) : Type 0 where
+pub record Tabled (table : Option (List Float)) (first : Float) (counts : List ℕ) (times : List ℤ) (freqs : List Float) : Type 0 where
   pub windows : (p : ℕ) → p < length counts → Windowed table (entries * p) first (pass_of counts p times) (pass_of counts p freqs)
   pub samples : Sampled table (entries * length counts) times
 
@@ -122,9 +109,9 @@ moments times k = instant_at (get_or times k (pos 0))
 -- one pass's window is filled
 pub record PassWritten (at : ℕ) (center : Float) (times : List ℤ) (freqs : List Float) (old new : List Float) : Type 0 where
   pub kept : Kept at old new
-  pub windowed : Windowed new at center times freqs
+  pub windowed : Windowed (Some new) at center times freqs
 
 -- a pass set's table is filled
 pub record SetWritten (counts : List ℕ) (times : List ℤ) (freqs centers old new : List Float) : Type 0 where
   pub same : length new ≡ length old
-  pub tabled : Tabled new (get_or centers 0 nan) counts times freqs
+  pub tabled : Tabled (Some new) (get_or centers 0 nan) counts times freqs

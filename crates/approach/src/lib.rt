@@ -5,15 +5,17 @@ pub mod pca;
 pub mod sums;
 pub mod turns;
 
-ghost use Rattle.std.specs.Prelude.{◌≡◌};
-ghost use Rattle.refusal.specs.Refusals.{answer};
-ghost use Rattle.approach.specs.Answers.{set_refusal_of, FindsPcas, compute_rss_of, compute_gradient_of};
+ghost use Rattle.std.specs.Prelude.{◌≡◌, MatchResult, Some};
+ghost use Rattle.moment.specs.Range.{Within};
+ghost use Rattle.approach.specs.Answers.{set_refusal_of, Accepts, FindsPcas, compute_rss_of, compute_gradient_of};
 
 use frame::Vec3;
 use moment::{Instant, Moment};
 use orbit::Elements;
-use orbit::doppler::Station;
+use orbit::doppler::{Sight, Station};
+use pass_set::PassSet;
 use refusal::Refusal;
+use turns::Prepared;
 
 // The sum's differences by a, i, raan0 and u0, each over its step.
 #[derive(Clone, Copy)]
@@ -46,9 +48,30 @@ pub struct Stage {
     pub n: u64,
 }
 
+// An orbit seen from a station whose epoch passed refusal 4.
+#[derive(Clone, Copy)]
+pub struct View {
+    pub sight: Sight,
+    ghost dated: { Within 0 sight.station.epoch.secs sight.station.epoch.nanos },
+}
+
+pub fn seen(g: Station, e: Elements) -> View
+    requires { Within 0 g.epoch.secs g.epoch.nanos }
+    ensures { (result.sight.station ≡ g) × (result.sight.e ≡ e) }
+{
+    View {
+        sight: orbit::doppler::sight_of(g, e),
+    }
+}
+
 // Refused: 4, a sample is outside 1957 to 2057; 5, sizes.
-fn accept_set(counts: &[u32], times: &[i64], freqs: &[f64], centers: &[f64]) -> Result<(), Refusal>
-    ensures { result ≡ answer (set_refusal_of counts.now times.now freqs.now centers.now) tt }
+fn accept_set<'a>(
+    counts: &'a [u32],
+    times: &'a [i64],
+    freqs: &'a [f64],
+    centers: &'a [f64],
+) -> Result<PassSet<'a>, Refusal>
+    ensures { MatchResult result (Accepts counts.now times.now freqs.now centers.now) (λ r. set_refusal_of counts.now times.now freqs.now centers.now ≡ Some r) }
 {
     if !moment::sample::all_in_range(times) {
         return Err(Refusal::MomentRange);
@@ -56,7 +79,12 @@ fn accept_set(counts: &[u32], times: &[i64], freqs: &[f64], centers: &[f64]) -> 
     if !pass_set::sizes_agree(counts, times.len(), freqs.len(), centers.len()) {
         return Err(Refusal::Sizes);
     }
-    Ok(())
+    Ok(PassSet {
+        counts,
+        times,
+        freqs,
+        centers,
+    })
 }
 
 // The predicted moment of closest approach of each pass, in nanoseconds since 1970, into the first places of out: the
@@ -78,7 +106,7 @@ pub fn get_pred_pca_times(
     ensures { FindsPcas a i raan u0 epoch rec_ecef counts.now times.now freqs.now centers.now out.old out.new result }
 {
     let t = Instant::try_from(epoch)?;
-    accept_set(counts, times, freqs, centers)?;
+    let set = accept_set(counts, times, freqs, centers)?;
     if out.len() < counts.len() {
         return Err(Refusal::ShortMemory);
     }
@@ -93,7 +121,7 @@ pub fn get_pred_pca_times(
         raan0: raan,
         u0,
     };
-    pca::pca_times(g, e, counts, times, freqs, centers, out);
+    pca::pca_times(g, e, &set, out);
     Ok(())
 }
 
@@ -115,7 +143,7 @@ pub fn compute_rss(
     ensures { result ≡ compute_rss_of epoch center_freq rec_ecef (record { a = initial_a; i = initial_i; raan0 = raan0; u0 = u0 }) counts.now times.now freqs.now centers.now }
 {
     let t = Instant::try_from(epoch)?;
-    accept_set(counts, times, freqs, centers)?;
+    let set = accept_set(counts, times, freqs, centers)?;
     let g = Station {
         epoch: t,
         center_freq,
@@ -127,7 +155,7 @@ pub fn compute_rss(
         raan0,
         u0,
     };
-    Ok(sums::rss(counts, times, freqs, centers, &[], g, e))
+    Ok(sums::rss(&Prepared { set, table: None }, g, e))
 }
 
 // The sum's differences: 1000 m on a, 1e-4 rad on i, raan0 and u0, each over its step. Refused: 4 and 5, as above.
@@ -147,12 +175,12 @@ pub fn compute_gradient(
     ensures { result ≡ compute_gradient_of epoch center_freq rec_ecef (record { a = a; i = i; raan0 = raan0; u0 = u0 }) counts.now times.now freqs.now centers.now }
 {
     let t = Instant::try_from(epoch)?;
-    accept_set(counts, times, freqs, centers)?;
+    let set = accept_set(counts, times, freqs, centers)?;
     let g = Station {
         epoch: t,
         center_freq,
         rec_ecef,
     };
     let e = Elements { a, i, raan0, u0 };
-    Ok(sums::gradient(counts, times, freqs, centers, &[], g, e))
+    Ok(sums::gradient(&Prepared { set, table: None }, g, e))
 }

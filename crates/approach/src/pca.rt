@@ -1,15 +1,16 @@
 // The closest moments of passes. Inner functions: they ask for moments in range and samples in pairs.
-ghost use Rattle.std.specs.Prelude.{◌≡◌, ◌+◌, ◌*◌, ◌≤◌, ◌<◌, length, get_or, set, pos};
+ghost use Rattle.std.specs.Prelude.{◌≡◌, ◌+◌, ◌*◌, ◌≤◌, ◌<◌, length, get_or, pos};
 ghost use Rattle.moment.specs.Range.{Within};
-ghost use Rattle.moment.specs.Sample.{Timed, instant_at, since_of};
+ghost use Rattle.moment.specs.Sample.{Timed, instant_at};
 ghost use Rattle.approach.specs.Pca.{obs_pca_at, obs_pca_time, square_of, closer_of, searched_of, closest_of, pred_pca_time, pca_times_of};
-ghost use Rattle.approach.specs.Turns.{reach, Seen, PassSamples, SoundSet, Around, Beside, Window, Held, Windowed, window};
+ghost use Rattle.approach.specs.Turns.{listed, reach, Around, Beside, Window, Held, Windowed, window};
 
-use crate::{Closest, Nearest, Stage};
+use crate::{Closest, Nearest, Stage, View};
 use frame::{State, Vec3};
 use moment::Instant;
 use orbit::Elements;
-use orbit::doppler::{Sight, Station};
+use orbit::doppler::Station;
+use pass_set::{Pass, PassSet};
 
 // Which sample is closest to the centre frequency.
 fn obs_pca_at(freqs: &[f64], center: f64) -> usize
@@ -36,11 +37,11 @@ pub fn moment_at(times: &[i64], k: usize) -> Instant
     moment::sample::of_nanos(times[k])
 }
 
-pub fn obs_pca_time(times: &[i64], freqs: &[f64], center: f64) -> Instant
-    requires { PassSamples times.now freqs.now × (0 < length freqs.now) }
-    ensures { (result ≡ obs_pca_time times.now freqs.now center) × Within 0 result.secs result.nanos }
+pub fn obs_pca_time(pass: &Pass, center: f64) -> Instant
+    requires { 0 < length pass.now.freqs.now }
+    ensures { (result ≡ obs_pca_time pass.now.times.now pass.now.freqs.now center) × Within 0 result.secs result.nanos }
 {
-    moment_at(times, obs_pca_at(freqs, center))
+    moment_at(pass.times, obs_pca_at(pass.freqs, center))
 }
 
 fn square(s: State, rec: Vec3) -> f64
@@ -53,13 +54,17 @@ fn square(s: State, rec: Vec3) -> f64
 }
 
 // By entry j of a table.
-fn closer(v: Sight, table: &[f64], j: usize, t: Instant, s: Closest) -> Closest
-    requires { Seen v × Within reach t.secs t.nanos × Held table.now j t.secs t.nanos }
-    ensures { result ≡ closer_of v.station v.e t.nanos t.secs s }
+fn closer(v: View, table: Option<&[f64]>, j: usize, t: Instant, s: Closest) -> Closest
+    requires { Within reach t.secs t.nanos × Held (listed table) j t.secs t.nanos }
+    ensures { result ≡ closer_of v.sight.station v.sight.e t.nanos t.secs s }
 {
     let turn = crate::turns::turn_at(table, j, t);
-    let tau = moment::time::tau(t, v.station.epoch);
-    let d = square(orbit::propagate(v.e, v.k, tau, turn), v.station.rec_ecef);
+    let sight = v.sight;
+    let tau = moment::time::tau(t, sight.station.epoch);
+    let d = square(
+        orbit::propagate(sight.e, sight.k, tau, turn),
+        sight.station.rec_ecef,
+    );
     if d < s.dist {
         Closest {
             dist: d,
@@ -72,16 +77,16 @@ fn closer(v: Sight, table: &[f64], j: usize, t: Instant, s: Closest) -> Closest
 
 // The closest of a stage's moments, if it is below the best so far. The table's entry `at` is for the second `base`.
 fn search_around(
-    v: Sight,
-    table: &[f64],
+    v: View,
+    table: Option<&[f64]>,
     at: usize,
     base: u64,
     nanos: u32,
     stage: Stage,
     s: Closest,
 ) -> Closest
-    requires { Seen v × Around base stage s.secs nanos × Window table.now at base nanos }
-    ensures { (result ≡ searched_of v.station v.e nanos stage s) × Beside stage.half s.secs result.secs }
+    requires { Around base stage s.secs nanos × Window (listed table) at base nanos }
+    ensures { (result ≡ searched_of v.sight.station v.sight.e nanos stage s) × Beside stage.half s.secs result.secs }
 {
     let start = s.secs - stage.half;
     let mut best = s;
@@ -94,9 +99,9 @@ fn search_around(
 }
 
 // Each stage starts from the best so far.
-fn closest(v: Sight, table: &[f64], at: usize, t: Instant) -> Instant
-    requires { Seen v × Within 0 t.secs t.nanos × Window table.now at (window t) t.nanos }
-    ensures { (result ≡ closest_of v.station v.e t) × Within reach result.secs result.nanos }
+fn closest(v: View, table: Option<&[f64]>, at: usize, t: Instant) -> Instant
+    requires { Within 0 t.secs t.nanos × Window (listed table) at (window t) t.nanos }
+    ensures { (result ≡ closest_of v.sight.station v.sight.e t) × Within reach result.secs result.nanos }
 {
     let nanos = t.nanos;
     let base = t.secs - crate::turns::REACH;
@@ -129,54 +134,31 @@ fn closest(v: Sight, table: &[f64], at: usize, t: Instant) -> Instant
 }
 
 // The predicted closest moment of one pass, by its sample closest to the centre `first`; an empty pass gives the epoch.
-pub fn pred_pca_time(
-    v: Sight,
-    first: f64,
-    table: &[f64],
-    at: usize,
-    times: &[i64],
-    freqs: &[f64],
-) -> Instant
-    requires { Seen v × PassSamples times.now freqs.now × Windowed table.now at first times.now freqs.now }
-    ensures { (result ≡ pred_pca_time v.station v.e first times.now freqs.now) × Within reach result.secs result.nanos }
+pub fn pred_pca_time(v: View, first: f64, table: Option<&[f64]>, at: usize, pass: &Pass) -> Instant
+    requires { Windowed (listed table) at first pass.now.times.now pass.now.freqs.now }
+    ensures { (result ≡ pred_pca_time v.sight.station v.sight.e first pass.now.times.now pass.now.freqs.now) × Within reach result.secs result.nanos }
 {
-    if freqs.len() == 0 {
-        return v.station.epoch;
+    if pass.freqs.len() == 0 {
+        return v.sight.station.epoch;
     }
-    closest(v, table, at, obs_pca_time(times, freqs, first))
+    closest(v, table, at, obs_pca_time(pass, first))
 }
 
-// The same into place p of out, in nanoseconds since 1970, with no table.
-fn put_pca(v: Sight, first: f64, times: &[i64], freqs: &[f64], out: &mut [i64], p: usize)
-    requires { Seen v × PassSamples times.now freqs.now × (p < length out.old) }
-    ensures { out.new ≡ set out.old p (since_of (pred_pca_time v.station v.e first times.now freqs.now)) }
+// The predicted closest moments of a pass set, one per pass, in nanoseconds since 1970, with no table.
+pub fn pca_times(g: Station, e: Elements, set: &PassSet, out: &mut [i64])
+    requires { Within 0 g.epoch.secs g.epoch.nanos × (length set.now.counts.now ≤ length out.old) }
+    ensures { out.new ≡ pca_times_of g e set.now.counts.now set.now.times.now set.now.freqs.now set.now.centers.now out.old }
 {
-    let t = pred_pca_time(v, first, &freqs[0..0], 0, times, freqs);
-    out[p] = moment::sample::to_nanos(t);
-}
-
-// The predicted closest moments of a pass set, one per pass.
-pub fn pca_times(
-    g: Station,
-    e: Elements,
-    counts: &[u32],
-    times: &[i64],
-    freqs: &[f64],
-    centers: &[f64],
-    out: &mut [i64],
-)
-    requires { Within 0 g.epoch.secs g.epoch.nanos × SoundSet counts.now times.now freqs.now centers.now × (length counts.now ≤ length out.old) }
-    ensures { out.new ≡ pca_times_of g e counts.now times.now freqs.now centers.now out.old }
-{
-    if counts.len() == 0 {
+    if set.counts.len() == 0 {
         return;
     }
-    let v = orbit::doppler::sight_of(g, e);
-    let first = centers[0];
+    let v = crate::seen(g, e);
+    let first = set.centers[0];
     let mut k = 0usize;
-    for (p, &count) in counts.iter().enumerate() {
-        let end = k + count as usize;
-        put_pca(v, first, &times[k..end], &freqs[k..end], out, p);
-        k = end;
+    for (p, &count) in set.counts.iter().enumerate() {
+        let pass = set.pass(p, k);
+        let t = pred_pca_time(v, first, None, 0, &pass);
+        out[p] = moment::sample::to_nanos(t);
+        k += count as usize;
     }
 }

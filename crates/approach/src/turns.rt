@@ -1,13 +1,15 @@
 // The Earth's rotation at a moment, worked out or read from a table that specs/Turns.antt describes. Inner functions: they ask
 // for moments in range and tables that hold what they should.
-ghost use Rattle.std.specs.Prelude.{◌≡◌, ◌+◌, ◌*◌, ◌≤◌, ◌<◌, length};
+ghost use Rattle.std.specs.Prelude.{◌≡◌, ◌+◌, ◌*◌, ◌≤◌, ◌<◌, length, get_or};
+ghost use Rattle.std.specs.Float.{nan};
 ghost use Rattle.frame.specs.Rotation.{turn_at};
 ghost use Rattle.moment.specs.Range.{Within};
 ghost use Rattle.moment.specs.Sample.{Timed};
-ghost use Rattle.approach.specs.Turns.{reach, entries, PassSamples, SoundSet, Held, put_turn, Entered, window_moment, moments, PassWritten, SetWritten};
+ghost use Rattle.approach.specs.Turns.{listed, reach, entries, Held, Tabled, put_turn, Entered, window_moment, moments, PassWritten, SetWritten};
 
 use float::trig::SinCos;
 use moment::Instant;
+use pass_set::{Pass, PassSet};
 
 // The closest search reaches at most 600 + 20 + 2 seconds to both sides of an observed moment.
 pub const REACH: u64 = 622;
@@ -15,17 +17,25 @@ pub const REACH: u64 = 622;
 // How many whole seconds that is: a pass's entries in a table.
 pub const WINDOW: usize = 1245;
 
+// A pass set with its table of rotations, or with none.
+#[derive(Clone, Copy)]
+pub struct Prepared<'a> {
+    pub set: PassSet<'a>,
+    pub table: Option<&'a [f64]>,
+    ghost tabled: { Tabled (listed table) (get_or set.centers.now 0 nan) set.counts.now set.times.now set.freqs.now },
+}
+
 // By entry j of a table, if there is one.
-pub fn turn_at(table: &[f64], j: usize, t: Instant) -> SinCos
-    requires { Within reach t.secs t.nanos × Held table.now j t.secs t.nanos }
+pub fn turn_at(table: Option<&[f64]>, j: usize, t: Instant) -> SinCos
+    requires { Within reach t.secs t.nanos × Held (listed table) j t.secs t.nanos }
     ensures { result ≡ turn_at t.secs t.nanos }
 {
-    if table.len() == 0 {
-        return frame::rotation(frame::jd_at(t));
-    }
-    SinCos {
-        sin: table[2 * j],
-        cos: table[2 * j + 1],
+    match table {
+        None => frame::rotation(frame::jd_at(t)),
+        Some(turns) => SinCos {
+            sin: turns[2 * j],
+            cos: turns[2 * j + 1],
+        },
     }
 }
 
@@ -62,30 +72,30 @@ fn fill_samples(table: &mut [f64], at: usize, times: &[i64])
 }
 
 // The window of one pass, around its sample closest to the centre; an empty pass has none.
-fn fill_pass(table: &mut [f64], at: usize, center: f64, times: &[i64], freqs: &[f64])
-    requires { PassSamples times.now freqs.now × (at ≤ 100000) × (2 * (at + entries) ≤ length table.old) }
-    ensures { PassWritten at center times.now freqs.now table.old table.new }
+fn fill_pass(table: &mut [f64], at: usize, center: f64, pass: &Pass)
+    requires { (at ≤ 100000) × (2 * (at + entries) ≤ length table.old) }
+    ensures { PassWritten at center pass.now.times.now pass.now.freqs.now table.old table.new }
 {
-    if freqs.len() == 0 {
+    if pass.freqs.len() == 0 {
         return;
     }
-    fill_window(table, at, crate::pca::obs_pca_time(times, freqs, center));
+    fill_window(table, at, crate::pca::obs_pca_time(pass, center));
 }
 
 // The table of a pass set: 1,245 entries a pass and one a sample, of two numbers each.
-pub fn fill(counts: &[u32], times: &[i64], freqs: &[f64], centers: &[f64], table: &mut [f64])
-    requires { SoundSet counts.now times.now freqs.now centers.now × (2 * (entries * length counts.now + length times.now) ≤ length table.old) }
-    ensures { SetWritten counts.now times.now freqs.now centers.now table.old table.new }
+pub fn fill(set: &PassSet, table: &mut [f64])
+    requires { 2 * (entries * length set.now.counts.now + length set.now.times.now) ≤ length table.old }
+    ensures { SetWritten set.now.counts.now set.now.times.now set.now.freqs.now set.now.centers.now table.old table.new }
 {
-    if counts.len() == 0 {
+    if set.counts.len() == 0 {
         return;
     }
-    let first = centers[0];
+    let first = set.centers[0];
     let mut k = 0usize;
-    for (p, &count) in counts.iter().enumerate() {
-        let end = k + count as usize;
-        fill_pass(table, WINDOW * p, first, &times[k..end], &freqs[k..end]);
-        k = end;
+    for (p, &count) in set.counts.iter().enumerate() {
+        let pass = set.pass(p, k);
+        fill_pass(table, WINDOW * p, first, &pass);
+        k += count as usize;
     }
-    fill_samples(table, WINDOW * counts.len(), times);
+    fill_samples(table, WINDOW * set.counts.len(), set.times);
 }

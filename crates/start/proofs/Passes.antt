@@ -5,19 +5,15 @@ use mathlib.Core.List.{List}
 use Prim.Native.Nat.{ℕ, ◌+◌, ◌-◌, ◌≤◌, ◌<◌}
 use native.Mathlib.Omega.{arith}
 use lib.IntN.{ℤ}
-use lib.ListN.{length, take, drop, set, replicate, length-replicate}
-use lib.Ieee.{Float, nan}
+use lib.ListN.{length, take, drop, set}
+use lib.Ieee.{Float}
 use Rattle.moment.specs.declared.Instant.{Instant}
 use Rattle.orbit.specs.declared.Elements.{Elements}
 use Rattle.orbit.specs.declared.doppler.Station.{Station}
-use Rattle.orbit.specs.declared.doppler.Sight.{Sight}
-use Rattle.orbit.specs.Doppler.{sight_of}
-use Rattle.pass_set.specs.PassSet.{count_of, total, AtPass}
+use Rattle.pass_set.specs.PassSet.{count_of, total, AtPass, SoundSet}
 use Rattle.pass_set.proofs.Laws.{start_zero, start_next, pass_fits, pass_part, pass_length}
-use Rattle.approach.specs.Turns.{PassSamples, SoundSet}
 use Rattle.approach.specs.Pca.{obs_pca_time}
 use Rattle.approach.specs.Sums.{seconds_from, dt_of}
-use Rattle.approach.proofs.Passes.{part_samples}
 use Rattle.residuals.specs.Residuals.{place_of}
 use Rattle.start.specs.declared.Periods.{Periods}
 use Rattle.start.specs.Start.{SampledPasses, add_period, obs_of, next_period, pass_dt, put_dt, starting_set}
@@ -28,9 +24,6 @@ pub pass_set_lem : {counts : List ℕ} {times : List ℤ} {freqs : List Float} (
 pass_set_lem centers e s = record { sizes = rw e s.sizes; timed = s.timed }
 
 module _ {counts : List ℕ} {times : List ℤ} {freqs : List Float} {p k : ℕ} (s : SampledPasses counts times freqs) (a : AtPass counts p k) (h : p < length counts) where
-  pub samples : PassSamples (take (k + count_of counts p - k) (drop k times)) (take (k + count_of counts p - k) (drop k freqs))
-  samples = part_samples (pass_set_lem (replicate (length counts) nan) (length-replicate (length counts) nan) s) h a
-
   pub some : 0 < length (take (k + count_of counts p - k) (drop k freqs))
   some =
       let whole : total counts ≤ length freqs = omega (arith, s.sizes.whole, s.sizes.pairs) in
@@ -74,8 +67,7 @@ pub put_is : (counts : List ℕ) (times : List ℤ) (freqs : List Float) (g : St
 unfolding put_dt
 put_is counts times freqs g e second p x at dt q z = ap₂ (λ (n : ℕ) (d : Float). set x n d) q z
 
--- what is worked out before is of the orbit and the station given
-pub set_is : (counts : List ℕ) (times : List ℤ) (freqs : List Float) (g : Station) (e : Elements) (second : Bool) (v : Sight) (x : List Float)
-    → v ≡ sight_of g e → x ≡ starting_set counts times freqs v.station v.e second → x ≡ starting_set counts times freqs g e second
-unfolding sight_of
-set_is counts times freqs g e second v x h q = rw h at q
+-- the sight is of the orbit and the station given
+pub set_is : (counts : List ℕ) (times : List ℤ) (freqs : List Float) {g s : Station} {e o : Elements} (second : Bool) (x : List Float)
+    → (s ≡ g) × (o ≡ e) → x ≡ starting_set counts times freqs s o second → x ≡ starting_set counts times freqs g e second
+set_is counts times freqs second x h q = rw (h.0, h.1) at q

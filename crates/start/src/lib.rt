@@ -5,7 +5,6 @@
 ghost use Rattle.std.specs.Prelude.{◌≡◌, ◌<◌, length};
 ghost use Rattle.moment.specs.Range.{Within};
 ghost use Rattle.pass_set.specs.PassSet.{AtPass};
-ghost use Rattle.approach.specs.Turns.{Seen, PassSamples};
 ghost use Rattle.approach.specs.Sums.{dt_of};
 ghost use Rattle.start.specs.Start.{
   SampledPasses,
@@ -21,9 +20,11 @@ ghost use Rattle.start.specs.Start.{
   starting_set,
 };
 
+use approach::View;
 use moment::Instant;
 use orbit::Elements;
-use orbit::doppler::{Sight, Station};
+use orbit::doppler::Station;
+use pass_set::Pass;
 use residuals::PARAMS;
 
 // ---- the radius
@@ -74,7 +75,11 @@ fn obs_of(counts: &[u32], times: &[i64], freqs: &[f64], center: f64, p: usize, k
     ensures { (result ≡ obs_of counts.now times.now freqs.now center p) × Within 0 result.secs result.nanos }
 {
     let end = k + counts[p] as usize;
-    approach::pca::obs_pca_time(&times[k..end], &freqs[k..end], center)
+    let pass = Pass {
+        times: &times[k..end],
+        freqs: &freqs[k..end],
+    };
+    approach::pca::obs_pca_time(&pass, center)
 }
 
 // Pass p against the first, whose observed closest moment is t0.
@@ -135,23 +140,27 @@ fn with_elements(e: Elements) -> [f64; PARAMS]
 }
 
 // Of one pass's samples: the seconds from the observed closest moment to the predicted one, both by the station's centre.
-fn dt_of(times: &[i64], freqs: &[f64], v: Sight) -> f64
-    requires { Seen v × PassSamples times.now freqs.now × (0 < length freqs.now) }
-    ensures { result ≡ dt_of v.station v.e v.station.center_freq times.now freqs.now }
+fn dt_of(pass: &Pass, v: View) -> f64
+    requires { 0 < length pass.now.freqs.now }
+    ensures { result ≡ dt_of v.sight.station v.sight.e v.sight.station.center_freq pass.now.times.now pass.now.freqs.now }
 {
-    let center = v.station.center_freq;
-    let pred = approach::pca::pred_pca_time(v, center, &freqs[0..0], 0, times, freqs);
-    let obs = approach::pca::obs_pca_time(times, freqs, center);
+    let center = v.sight.station.center_freq;
+    let pred = approach::pca::pred_pca_time(v, center, None, 0, pass);
+    let obs = approach::pca::obs_pca_time(pass, center);
     moment::time::tau_millis(pred, obs)
 }
 
 // The same of pass p, whose samples begin at k.
-fn pass_dt(counts: &[u32], times: &[i64], freqs: &[f64], v: Sight, p: usize, k: usize) -> f64
-    requires { Seen v × SampledPasses counts.now times.now freqs.now × AtPass counts.now p k × (p < length counts.now) }
-    ensures { result ≡ pass_dt counts.now times.now freqs.now v.station v.e p }
+fn pass_dt(counts: &[u32], times: &[i64], freqs: &[f64], v: View, p: usize, k: usize) -> f64
+    requires { SampledPasses counts.now times.now freqs.now × AtPass counts.now p k × (p < length counts.now) }
+    ensures { result ≡ pass_dt counts.now times.now freqs.now v.sight.station v.sight.e p }
 {
     let end = k + counts[p] as usize;
-    dt_of(&times[k..end], &freqs[k..end], v)
+    let pass = Pass {
+        times: &times[k..end],
+        freqs: &freqs[k..end],
+    };
+    dt_of(&pass, v)
 }
 
 // The first set of a refinement: the orbit, each pass's dt, and no other bias.
@@ -166,8 +175,8 @@ pub fn starting_set(
     requires { SampledPasses counts.now times.now freqs.now × Within 0 g.epoch.secs g.epoch.nanos }
     ensures { result ≡ starting_set counts.now times.now freqs.now g e second }
 {
-    let v = orbit::doppler::sight_of(g, e);
-    let mut x = with_elements(v.e);
+    let v = approach::seen(g, e);
+    let mut x = with_elements(v.sight.e);
     let mut k = 0usize;
     for p in 0..counts.len() {
         let dt = pass_dt(counts, times, freqs, v, p, k);

@@ -1,11 +1,10 @@
 -- `dt_of` meets its contract. Assumes nothing.
-use mathlib.Core.Path.{refl}
 use Rattle.approach.specs.Sums.{dt_of}
 use Rattle.approach.proofs.Tables.{no_window}
 use Rattle.start.proofs.dt_of.Goals as goal
 
 pub pred_pca_time-pred-requires : goal.pred_pca_time-pred-requires
-pred_pca_time-pred-requires c = let q = c.requires in (q.0, q.1, no_window _ refl _ _ _)
+pred_pca_time-pred-requires c = no_window _ _ _
 
 pub returns : goal.returns
 unfolding dt_of

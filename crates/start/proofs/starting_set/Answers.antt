@@ -2,13 +2,9 @@
 use native.Mathlib.Omega.{arith}
 use Rattle.loops.proofs.Laws.{begins, again, ends, loops}
 use Rattle.pass_set.proofs.Laws.{first_pass, next_pass}
-use Rattle.approach.proofs.Passes.{seen}
 use Rattle.start.specs.Start.{starting_set}
 use Rattle.start.proofs.Passes.{small, put_is, set_is}
 use Rattle.start.proofs.starting_set.Goals as goal
-
-pub sight_of-v-requires : goal.sight_of-v-requires
-sight_of-v-requires c = search loops
 
 pub with_elements-x-requires : goal.with_elements-x-requires
 with_elements-x-requires c = search loops
@@ -16,12 +12,12 @@ with_elements-x-requires c = search loops
 pub loop-p-init : goal.loop-p-init
 unfolding starting_set
 loop-p-init c =
-    (first_pass _, begins (rw c.with_elements-x.ensures), seen _ _ _ c.sight_of-v.ensures c.requires.1)
+    (first_pass _, begins (rw c.with_elements-x.ensures))
 
 pub pass_dt-dt-requires : goal.pass_dt-dt-requires
 pass_dt-dt-requires c =
     let i = c.loop-p.invariant in
-    (i.2, c.requires.0, i.0, c.loop-p-test.true)
+    (c.requires.0, i.0, c.loop-p-test.true)
 
 pub place_of-at-requires : goal.place_of-at-requires
 place_of-at-requires c =
@@ -59,9 +55,8 @@ loop-p-preserved c =
     let i = c.loop-p.invariant in (
       next_pass c.loop-p-test.true i.0,
       again c.loop-p-test.true i.1 (put_is _ _ _ _ _ _ _ _ _ _ c.place_of-at.ensures.0 c.pass_dt-dt.ensures),
-      i.2,
     )
 
 pub returns : goal.returns
 returns c =
-    set_is _ _ _ _ _ _ _ _ c.sight_of-v.ensures (ends c.loop-p-test.false c.loop-p.invariant.1)
+    set_is _ _ _ _ _ c.seen-v.ensures (ends c.loop-p-test.false c.loop-p.invariant.1)

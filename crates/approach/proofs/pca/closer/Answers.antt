@@ -6,12 +6,12 @@ use Rattle.approach.proofs.Stages.{closer_taken, closer_left}
 use Rattle.approach.proofs.pca.closer.Goals as goal
 
 pub tau-tau-requires : goal.tau-tau-requires
-tau-tau-requires c = (within_sound reach _ _ (lit≤ tt) c.requires.1, within_sound 0 _ _ (lit≤ tt) c.requires.0.within)
+tau-tau-requires c = (within_sound reach _ _ (lit≤ tt) c.requires.0, within_sound 0 _ _ (lit≤ tt) c.args.v.dated)
 
 pub returns-then-d-s : goal.returns-then-d-s
 returns-then-d-s c =
-    closer_taken _ _ _ _ _ _ _ _ c.requires.0 c.turn_at-turn.ensures c.tau-tau.ensures c.propagate.ensures c.square-d.ensures c.if-d-s.true
+    closer_taken c.args.v.sight _ _ _ _ _ _ _ c.turn_at-turn.ensures c.tau-tau.ensures c.propagate.ensures c.square-d.ensures c.if-d-s.true
 
 pub returns-else-d-s : goal.returns-else-d-s
 returns-else-d-s c =
-    closer_left _ _ _ _ _ _ _ _ c.requires.0 c.turn_at-turn.ensures c.tau-tau.ensures c.propagate.ensures c.square-d.ensures c.if-d-s.false
+    closer_left c.args.v.sight _ _ _ _ _ _ _ c.turn_at-turn.ensures c.tau-tau.ensures c.propagate.ensures c.square-d.ensures c.if-d-s.false

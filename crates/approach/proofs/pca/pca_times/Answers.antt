@@ -1,70 +1,48 @@
 -- `pca_times` meets its contract. Assumes nothing.
-use mathlib.Core.Path.{refl, ap, ◌∙◌}
-use native.Mathlib.Omega.{arith}
-use lib.ListN.{length, length-set}
+use Rattle.std.proofs.Common.{refl, ◌∙◌, rules, arith}
+use lib.ListN.{length-set}
+use mir.Syntax.{w64}
+use mir.Val.{SFits}
+use mir.ValLaws.{to_z-of_z}
 use Rattle.loops.proofs.Laws.{begins, again, ends, loops}
-use Rattle.pass_set.proofs.Laws.{first_pass, next_pass, pass_fits}
+use Rattle.pass_set.proofs.Laws.{first_pass, next_pass, part_fits}
 use Rattle.approach.specs.Pca.{pca_times_of}
-use Rattle.approach.proofs.Passes.{part_samples, part_put, seen, seen_pcas}
+use Rattle.approach.proofs.Tables.{no_window}
+use Rattle.approach.proofs.Passes.{pass_put, seen_pcas}
 use Rattle.approach.proofs.pca.pca_times.Goals as goal
 
-pub returns-then-counts-eq0 : goal.returns-then-counts-eq0
+pub returns-then-set-eq0 : goal.returns-then-set-eq0
 unfolding pca_times_of
-returns-then-counts-eq0 c = ends (omega arith) (begins refl)
+returns-then-set-eq0 c = ends (omega arith) (begins refl)
 
-pub sight_of-v-requires : goal.sight_of-v-requires
-sight_of-v-requires c = search loops
-
-pub bounds-centers-0 : goal.bounds-centers-0
-bounds-centers-0 c = search loops
+pub bounds-set-0 : goal.bounds-set-0
+bounds-set-0 c = search loops
 
 pub loop-p-init : goal.loop-p-init
 unfolding pca_times_of
-loop-p-init c =
-    (first_pass _, refl, begins refl, seen _ _ _ c.sight_of-v.ensures c.requires.0)
+loop-p-init c = (first_pass _, refl, begins refl)
 
-pub overflow_add-end : goal.overflow_add-end
-overflow_add-end c = omega (arith, pass_fits c.loop-p-test.true c.loop-p.invariant.0)
+pub pass-pass-requires : goal.pass-pass-requires
+pass-pass-requires c = (c.loop-p.invariant.0, c.loop-p-test.true)
 
-pub offset_bounds-times-k : goal.offset_bounds-times-k
-offset_bounds-times-k c = omega (arith, pass_fits c.loop-p-test.true c.loop-p.invariant.0)
+pub pred_pca_time-t-requires : goal.pred_pca_time-t-requires
+pred_pca_time-t-requires c = no_window _ _ _
 
-pub slice_bounds-put_pca-count : goal.slice_bounds-put_pca-count
-slice_bounds-put_pca-count c = search loops
-
-pub slice_bounds-put_pca-start : goal.slice_bounds-put_pca-start
-slice_bounds-put_pca-start c = search loops
-
-pub slice_bounds-put_pca-end : goal.slice_bounds-put_pca-end
-slice_bounds-put_pca-end c = omega (arith, pass_fits c.loop-p-test.true c.loop-p.invariant.0)
-
-pub offset_bounds-freqs-k : goal.offset_bounds-freqs-k
-offset_bounds-freqs-k c = omega (arith, pass_fits c.loop-p-test.true c.loop-p.invariant.0)
-
-pub slice_bounds-put_pca-count-in-loop-p : goal.slice_bounds-put_pca-count-in-loop-p
-slice_bounds-put_pca-count-in-loop-p c = search loops
-
-pub slice_bounds-put_pca-start-in-loop-p : goal.slice_bounds-put_pca-start-in-loop-p
-slice_bounds-put_pca-start-in-loop-p c = search loops
-
-pub slice_bounds-put_pca-end-in-loop-p : goal.slice_bounds-put_pca-end-in-loop-p
-slice_bounds-put_pca-end-in-loop-p c = omega (arith, pass_fits c.loop-p-test.true c.loop-p.invariant.0)
-
-pub put_pca-requires : goal.put_pca-requires
-put_pca-requires c =
-    (c.loop-p.invariant.3, part_samples c.requires.1 c.loop-p-test.true c.loop-p.invariant.0, omega arith)
+pub overflow_add-k : goal.overflow_add-k
+overflow_add-k c =
+    let s = c.args.set.now.sound in
+    omega (arith, part_fits s c.loop-p-test.true c.loop-p.invariant.0, s.sizes.small)
 
 pub loop-p-preserved : goal.loop-p-preserved
-loop-p-preserved c = (
-  next_pass c.loop-p-test.true c.loop-p.invariant.0,
-  ap length c.put_pca.ensures ∙ simp length-set c.loop-p.invariant.1,
-  again c.loop-p-test.true c.loop-p.invariant.2 (part_put _ _ _ _ _ _ _ _ c.loop-p.invariant.0 c.put_pca.ensures),
-  c.loop-p.invariant.3,
-)
+loop-p-preserved c =
+    let f : SFits w64 c.to_nanos.result = search rules in (
+      next_pass c.loop-p-test.true c.loop-p.invariant.0,
+      simp length-set c.loop-p.invariant.1,
+      again c.loop-p-test.true c.loop-p.invariant.2 (pass_put _ _ _ _ _ _ _ c.pass-pass.ensures.times c.pass-pass.ensures.freqs _ _ _ (to_z-of_z w64 c.to_nanos.result f ∙ c.to_nanos.ensures) c.pred_pca_time-t.ensures.0),
+    )
 
 pub shape_of-out : goal.shape_of-out
 shape_of-out c = search loops
 
 pub returns : goal.returns
-returns c =
-    seen_pcas _ _ _ c.sight_of-v.ensures _ _ _ _ _ _ (ends c.loop-p-test.false c.loop-p.invariant.2)
+returns c = seen_pcas c.seen-v.ensures _ _ _ _ _ _ (ends c.loop-p-test.false c.loop-p.invariant.2)

@@ -6,15 +6,14 @@ use Rattle.approach.specs.Pca.{pred_pca_time}
 use Rattle.approach.proofs.Tables.{window_at}
 use Rattle.approach.proofs.pca.pred_pca_time.Goals as goal
 
-pub returns-then-freqs-eq0 : goal.returns-then-freqs-eq0
+pub returns-then-pass-eq0 : goal.returns-then-pass-eq0
 unfolding pred_pca_time
-returns-then-freqs-eq0 c = (simp (eq-eqb _ _ c.if-freqs-eq0.true), within_more (lit≤ tt) c.requires.0.within)
+returns-then-pass-eq0 c = (simp (eq-eqb _ _ c.if-pass-eq0.true), within_more (lit≤ tt) c.args.v.dated)
 
 pub closest-requires : goal.closest-requires
 closest-requires c =
-    let p = c.requires in
-    (p.0, c.obs_pca_time.ensures.1, window_at c.obs_pca_time.ensures.0 c.if-freqs-eq0.false p.2)
+    (c.obs_pca_time.ensures.1, window_at c.obs_pca_time.ensures.0 c.if-pass-eq0.false c.requires)
 
 pub returns : goal.returns
 unfolding pred_pca_time
-returns c = (simp (c.closest.ensures.0, c.obs_pca_time.ensures.0, ne_eqb _ _ c.if-freqs-eq0.false), c.closest.ensures.1)
+returns c = (simp (c.closest.ensures.0, c.obs_pca_time.ensures.0, ne_eqb _ _ c.if-pass-eq0.false), c.closest.ensures.1)

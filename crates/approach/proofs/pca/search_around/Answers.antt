@@ -7,7 +7,7 @@ use Rattle.approach.proofs.Stages.{inside, inside_within, inside_held, beside_cl
 use Rattle.approach.proofs.pca.search_around.Goals as goal
 
 pub overflow_sub-start : goal.overflow_sub-start
-overflow_sub-start c = let a = c.requires.1 in omega (arith, a.low)
+overflow_sub-start c = let a = c.requires.0 in omega (arith, a.low)
 
 pub loop-m-init : goal.loop-m-init
 unfolding searched_of
@@ -15,30 +15,30 @@ loop-m-init c = (search loops, record { low = omega arith; high = omega arith },
 
 pub overflow_mul-secs : goal.overflow_mul-secs
 overflow_mul-secs c =
-    let i = inside _ _ _ _ c.loop-m.m c.requires.1 c.loop-m-test.true in
-    let l = c.requires.1.late in
+    let i = inside _ _ _ _ c.loop-m.m c.requires.0 c.loop-m-test.true in
+    let l = c.requires.0.late in
     omega (arith, i.high, l)
 
 pub overflow_add-secs : goal.overflow_add-secs
 overflow_add-secs c =
-    let i = inside _ _ _ _ c.loop-m.m c.requires.1 c.loop-m-test.true in
-    let l = c.requires.1.late in
+    let i = inside _ _ _ _ c.loop-m.m c.requires.0 c.loop-m-test.true in
+    let l = c.requires.0.late in
     omega (arith, i.high, l)
 
 pub overflow_sub-j : goal.overflow_sub-j
 overflow_sub-j c =
-    let i = inside _ _ _ _ c.loop-m.m c.requires.1 c.loop-m-test.true in
+    let i = inside _ _ _ _ c.loop-m.m c.requires.0 c.loop-m-test.true in
     omega (arith, i.low)
 
 pub overflow_add-j : goal.overflow_add-j
 overflow_add-j c =
-    let i = inside _ _ _ _ c.loop-m.m c.requires.1 c.loop-m-test.true in
-    omega (arith, i.high, c.requires.2.small)
+    let i = inside _ _ _ _ c.loop-m.m c.requires.0 c.loop-m-test.true in
+    omega (arith, i.high, c.requires.1.small)
 
 pub closer-best-requires : goal.closer-best-requires
 closer-best-requires c =
-    let i = inside _ _ _ _ c.loop-m.m c.requires.1 c.loop-m-test.true in
-    (c.requires.0, inside_within _ c.requires.1 i, inside_held _ c.requires.2 i)
+    let i = inside _ _ _ _ c.loop-m.m c.requires.0 c.loop-m-test.true in
+    (inside_within _ c.requires.0 i, inside_held _ c.requires.1 i)
 
 pub overflow_step-m : goal.overflow_step-m
 overflow_step-m c = search loops
@@ -48,7 +48,7 @@ loop-m-smaller c = search loops
 
 pub loop-m-preserved : goal.loop-m-preserved
 loop-m-preserved c =
-    let i = inside _ _ _ _ c.loop-m.m c.requires.1 c.loop-m-test.true in
+    let i = inside _ _ _ _ c.loop-m.m c.requires.0 c.loop-m-test.true in
     (omega arith, beside_closer _ _ _ _ _ _ _ i.near c.loop-m.invariant.1 c.closer-best.ensures, again c.loop-m-test.true c.loop-m.invariant.2 c.closer-best.ensures)
 
 pub returns : goal.returns

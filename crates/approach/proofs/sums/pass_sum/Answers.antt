@@ -7,9 +7,9 @@ use Rattle.approach.specs.Turns.{reach}
 use Rattle.approach.proofs.Far.{shift}
 use Rattle.approach.proofs.sums.pass_sum.Goals as goal
 
-pub returns-then-freqs-eq0 : goal.returns-then-freqs-eq0
+pub returns-then-pass-eq0 : goal.returns-then-pass-eq0
 unfolding pass_sum_of
-returns-then-freqs-eq0 c = simp (eq-eqb _ _ c.if-freqs-eq0.true)
+returns-then-pass-eq0 c = simp (eq-eqb _ _ c.if-pass-eq0.true)
 
 pub tau_millis-dt-requires : goal.tau_millis-dt-requires
 tau_millis-dt-requires c =
@@ -17,10 +17,7 @@ tau_millis-dt-requires c =
 
 pub samples-requires : goal.samples-requires
 samples-requires c =
-    let p = c.requires in (
-      (p.0, shift _ _ c.pred_pca_time-pred.ensures.1 (within_more (lit≤ tt) c.obs_pca_time-obs.ensures.1) c.tau_millis-dt.ensures),
-      (p.1, p.3),
-    )
+    (shift _ _ c.pred_pca_time-pred.ensures.1 (within_more (lit≤ tt) c.obs_pca_time-obs.ensures.1) c.tau_millis-dt.ensures, c.requires.1)
 
 pub returns : goal.returns
 unfolding pass_sum_of dt_of
@@ -30,6 +27,6 @@ returns c =
       c.tau_millis-dt.ensures,
       c.obs_pca_time-obs.ensures.0,
       c.pred_pca_time-pred.ensures.0,
-      ne_eqb _ _ c.if-freqs-eq0.false,
+      ne_eqb _ _ c.if-pass-eq0.false,
       hundred_bits,
     )

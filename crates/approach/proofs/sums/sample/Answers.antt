@@ -11,7 +11,7 @@ pub shift_at-pred_f-requires : goal.shift_at-pred_f-requires
 shift_at-pred_f-requires c =
     let p = c.requires in
     let m = c.moment_at-t.ensures in
-    (p.0, (m.1, held_moment (get_or c.args.times.now c.args.n (pos 0)) m.0 p.1.2))
+    (p.0, m.1, held_moment (get_or c.args.pass.now.times.now c.args.n (pos 0)) m.0 p.2)
 
 pub returns : goal.returns
 unfolding sample_of

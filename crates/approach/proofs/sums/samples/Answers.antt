@@ -10,15 +10,15 @@ unfolding samples_of
 loop-n-init c = (search loops, begins refl)
 
 pub overflow_add-at : goal.overflow_add-at
-overflow_add-at c = let p = c.requires.1 in omega (arith, c.loop-n-test.true, p.0.few, p.0.pairs, p.1.small)
+overflow_add-at c = let p = c.args.pass.now.paired in omega (arith, c.loop-n-test.true, p.few, p.pairs, c.requires.1.small)
 
 pub sample-sum-requires : goal.sample-sum-requires
 sample-sum-requires c =
     let p = c.requires in
-    (p.0, (p.1.0, c.loop-n-test.true, p.1.1.each c.loop-n.n (omega (arith, c.loop-n-test.true, p.1.0.pairs))))
+    (p.0, c.loop-n-test.true, p.1.each c.loop-n.n (omega (arith, c.loop-n-test.true, c.args.pass.now.paired.pairs)))
 
 pub overflow_step-n : goal.overflow_step-n
-overflow_step-n c = omega (arith, c.loop-n-test.true, c.requires.1.0.few, c.requires.1.0.pairs)
+overflow_step-n c = omega (arith, c.loop-n-test.true, c.args.pass.now.paired.few, c.args.pass.now.paired.pairs)
 
 pub loop-n-smaller : goal.loop-n-smaller
 loop-n-smaller c = search loops

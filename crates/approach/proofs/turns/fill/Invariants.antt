@@ -6,4 +6,4 @@ use Rattle.approach.proofs.Fill.{Windows}
 use Rattle.approach.proofs.turns.fill.Given as goal
 
 abbrev pub invariant-loop-p : goal.invariant-loop-p
-invariant-loop-p l = AtPass l.counts l.p l.k × (length l.table ≡ length l.initial.table) × Windows l.table l.first l.counts l.times l.freqs l.p
+invariant-loop-p l = AtPass l.set.counts.now l.p l.k × (length l.table ≡ length l.initial.table) × Windows l.table l.first l.set.counts.now l.set.times.now l.set.freqs.now l.p
