@@ -49,12 +49,12 @@ module _ (n : ℕ) (a v o o' s s' : List Float) (r : Result (Unit {0}) Refusal) 
       go (some y) q = cc
 
   -- the new set y, from x by the solution divided by the scales, or by the solution
-  pub moved_scaled : (second : Bool) (f delta x y : List Float) (size : Float) → r ≡ Ok tt → second ≡ true → delta ≡ divided n f o' → next y size ≡ stepped_by n x delta
-      → next y size ≡ finish second n f x (solution_of n a v)
-  moved_scaled second f delta x y size e es ed em = em ∙ rw (found e, es, ed)
+  module _ (second : Bool) (f delta x y : List Float) (size : Float) (i j : ℕ) (ei : i ≡ n) (ej : j ≡ n) (e : r ≡ Ok tt) (em : next y size ≡ stepped_by i x delta) where
+    pub moved_scaled : second ≡ true → delta ≡ divided j f o' → next y size ≡ finish second n f x (solution_of n a v)
+    moved_scaled es ed = em ∙ rw (found e, es, ed, ei, ej)
 
-  pub moved_plain : (second : Bool) (f x y : List Float) (size : Float) → r ≡ Ok tt → second ≡ false → next y size ≡ stepped_by n x o' → next y size ≡ finish second n f x (solution_of n a v)
-  moved_plain second f x y size e es em = em ∙ rw (found e, es)
+    pub moved_plain : second ≡ false → delta ≡ o' → next y size ≡ finish second n f x (solution_of n a v)
+    moved_plain es ed = em ∙ rw (found e, es, ed, ei)
 
 -- the scales f of a, the system a' x = v' divided by them, and what its solution led to
 pub through_scales : (second : Bool) (n : ℕ) (a a' v v' f x : List Float) (w : Outcome) → second ≡ true → f ≡ scales n a → a' ≡ scaled n f a → v' ≡ divided n f v

@@ -1,11 +1,10 @@
 // The normal equations of a table of derivatives, damped and solved: the step from one set of parameters to the next, for both
-// refinements. Each function does what the definition of its contract in specs/ says; a loop's body is a function of its own.
-// The functions are called with what they require by the crates above, which meet it by proof.
+// refinements. Each function does what the definition of its contract in specs/ says. The crates above hand in a `Table`, and meet
+// its invariant by proof.
 #![tactic(auto)]
 
-ghost use Rattle.std.specs.Prelude.{◌≡◌, ◌+◌, ◌*◌, ◌<◌, ◌≤◌, length};
+ghost use Rattle.std.specs.Prelude.{◌≡◌, ◌+◌, ◌*◌, ◌<◌, ◌≤◌, length, set};
 ghost use Rattle.float.specs.Ops.{at};
-ghost use Rattle.loops.specs.Loop.{for};
 ghost use Rattle.linear.specs.Elimination.{solution_of};
 ghost use Rattle.normal.specs.Normal.{Grid, table_entry, add_product, add_products, add_row, add_right, add_rights, jtj_of, jtr_of};
 ghost use Rattle.normal.specs.Step.{
@@ -49,101 +48,90 @@ pub fn place(rows: usize, n: usize, r: usize, c: usize) -> usize
 
 // ---- the normal equations
 
-fn add_product(
-    table: &[f64],
-    rows: usize,
-    n: usize,
-    v: f64,
-    row: usize,
-    c1: usize,
-    c2: usize,
-    a: &mut [f64],
-)
-    requires { Grid rows n table.now × (length a.old ≡ n * n) × (row < rows) × (c1 < n) × (c2 < n) }
-    ensures { a.new ≡ add_product n (table_entry n table.now) v row c1 c2 a.old }
-{
-    let q = place(rows, n, row, c2);
-    let p = place(n, n, c1, c2);
-    a[p] = a[p] + v * table[q];
+// A set's residuals and the table of their derivatives by its n parameters, row by row, in lent memory.
+#[derive(Drop)]
+pub struct Table<'a> {
+    pub residuals: &'a [f64],
+    pub n: usize,
+    pub entries: &'a mut [f64],
+    ghost grid: { Grid (length residuals.now) n entries.now },
+    ghost parameters: { 4 ≤ n },
 }
 
-fn add_products(table: &[f64], rows: usize, n: usize, row: usize, c1: usize, a: &mut [f64])
-    requires { Grid rows n table.now × (length a.old ≡ n * n) × (row < rows) × (c1 < n) }
-    ensures { a.new ≡ add_products n (table_entry n table.now) row c1 a.old }
-{
-    let q = place(rows, n, row, c1);
-    let v = table[q];
-    for c2 in 0..n {
-        add_product(table, rows, n, v, row, c1, c2, a);
+impl Table<'_> {
+    // The derivative in a row by parameter c.
+    pub fn entry(&self, row: usize, c: usize) -> f64
+        requires { (row < length self.now.residuals.now) × (c < self.now.n) }
+        ensures { result ≡ table_entry self.now.n self.now.entries.now row c }
+    {
+        self.entries[place(self.residuals.len(), self.n, row, c)]
     }
-}
 
-fn add_row(table: &[f64], rows: usize, n: usize, row: usize, a: &mut [f64])
-    requires { Grid rows n table.now × (length a.old ≡ n * n) × (row < rows) }
-    ensures { a.new ≡ add_row n (table_entry n table.now) row a.old }
-{
-    for c1 in 0..n {
-        add_products(table, rows, n, row, c1, a);
+    pub fn put(&mut self, row: usize, c: usize, v: f64)
+        requires { (row < length self.old.residuals.now) × (c < self.old.n) }
+        ensures size { self.new.n ≡ self.old.n }
+        ensures residuals { self.new.residuals.now ≡ self.old.residuals.now }
+        ensures after { self.new.entries.now ≡ set self.old.entries.now (row * self.old.n + c) v }
+    {
+        let p = place(self.residuals.len(), self.n, row, c);
+        self.entries[p] = v;
     }
-}
 
-fn add_right(table: &[f64], r: &[f64], n: usize, row: usize, c1: usize, v: &mut [f64])
-    requires { Grid (length r.now) n table.now × (length v.old ≡ n) × (row < length r.now) × (c1 < n) }
-    ensures { v.new ≡ add_right n (table_entry n table.now) (at r.now) row c1 v.old }
-{
-    let q = place(r.len(), n, row, c1);
-    v[c1] = v[c1] + table[q] * r[row];
-}
-
-fn add_rights(table: &[f64], r: &[f64], n: usize, row: usize, v: &mut [f64])
-    requires { Grid (length r.now) n table.now × (length v.old ≡ n) × (row < length r.now) }
-    ensures { v.new ≡ add_rights n (table_entry n table.now) (at r.now) row v.old }
-{
-    for c1 in 0..n {
-        add_right(table, r, n, row, c1, v);
+    fn add_products(&self, row: usize, c1: usize, jt_j: &mut [f64])
+        requires { (length jt_j.old ≡ self.now.n * self.now.n) × (row < length self.now.residuals.now) × (c1 < self.now.n) }
+        ensures { jt_j.new ≡ add_products self.now.n (table_entry self.now.n self.now.entries.now) row c1 jt_j.old }
+    {
+        let v = self.entry(row, c1);
+        for c2 in 0..self.n {
+            let p = place(self.n, self.n, c1, c2);
+            jt_j[p] += v * self.entry(row, c2);
+        }
     }
-}
 
-// JᵀJ into jt_j. The reference sums both in one loop; their sums do not meet.
-fn sum_jt_j(table: &[f64], rows: usize, n: usize, jt_j: &mut [f64])
-    requires { Grid rows n table.now × (length jt_j.old ≡ n * n) }
-    ensures { jt_j.new ≡ jtj_of n (table_entry n table.now) rows }
-{
-    linear::clear(jt_j);
-    for row in 0..rows {
-        add_row(table, rows, n, row, jt_j);
+    fn add_row(&self, row: usize, jt_j: &mut [f64])
+        requires { (length jt_j.old ≡ self.now.n * self.now.n) × (row < length self.now.residuals.now) }
+        ensures { jt_j.new ≡ add_row self.now.n (table_entry self.now.n self.now.entries.now) row jt_j.old }
+    {
+        for c1 in 0..self.n {
+            self.add_products(row, c1, jt_j);
+        }
     }
-}
 
-// Jᵀr into jt_r.
-fn sum_jt_r(table: &[f64], r: &[f64], n: usize, jt_r: &mut [f64])
-    requires { Grid (length r.now) n table.now × (length jt_r.old ≡ n) }
-    ensures { jt_r.new ≡ jtr_of n (table_entry n table.now) (at r.now) (length r.now) }
-{
-    linear::clear(jt_r);
-    for row in 0..r.len() {
-        add_rights(table, r, n, row, jt_r);
+    fn add_rights(&self, row: usize, jt_r: &mut [f64])
+        requires { (length jt_r.old ≡ self.now.n) × (row < length self.now.residuals.now) }
+        ensures { jt_r.new ≡ add_rights self.now.n (table_entry self.now.n self.now.entries.now) (at self.now.residuals.now) row jt_r.old }
+    {
+        let residual = self.residuals[row];
+        for (c1, v) in jt_r.iter_mut().enumerate() {
+            *v += self.entry(row, c1) * residual;
+        }
+    }
+
+    // JᵀJ into jt_j. The reference sums both in one loop; their sums do not meet.
+    fn sum_jt_j(&self, jt_j: &mut [f64])
+        requires { length jt_j.old ≡ self.now.n * self.now.n }
+        ensures { jt_j.new ≡ jtj_of self.now.n (table_entry self.now.n self.now.entries.now) (length self.now.residuals.now) }
+    {
+        linear::clear(jt_j);
+        for row in 0..self.residuals.len() {
+            self.add_row(row, jt_j);
+        }
+    }
+
+    // Jᵀr into jt_r.
+    fn sum_jt_r(&self, jt_r: &mut [f64])
+        requires { length jt_r.old ≡ self.now.n }
+        ensures { jt_r.new ≡ jtr_of self.now.n (table_entry self.now.n self.now.entries.now) (at self.now.residuals.now)
+            (length self.now.residuals.now) }
+    {
+        linear::clear(jt_r);
+        for row in 0..self.residuals.len() {
+            self.add_rights(row, jt_r);
+        }
     }
 }
 
 // ---- damping and scaling
-
-fn damp_cell(a: &mut [f64], n: usize, lambda: f64, k: usize)
-    requires { Grid n n a.old × (k < n) }
-    ensures { a.new ≡ damp_cell n lambda k a.old }
-{
-    let p = place(n, n, k, k);
-    a[p] = a[p] + lambda * a[p];
-}
-
-fn damp(a: &mut [f64], n: usize, lambda: f64)
-    requires { Grid n n a.old }
-    ensures { a.new ≡ damped n lambda a.old }
-{
-    for k in 0..n {
-        damp_cell(a, n, lambda, k);
-    }
-}
 
 fn scale_factor(s: f64) -> f64
     ensures { result ≡ scale_of s }
@@ -151,90 +139,95 @@ fn scale_factor(s: f64) -> f64
     if s > 1e-15 { s } else { 1.0 }
 }
 
-fn set_scale(a: &[f64], n: usize, i: usize, f: &mut [f64])
-    requires { Grid n n a.now × (length f.old ≡ n) × (i < n) }
-    ensures { f.new ≡ set_scale n a.now i f.old }
+fn divide(v: &mut [f64], f: &[f64])
+    requires { length v.old ≤ length f.now }
+    ensures { v.new ≡ divided (length v.old) f.now v.old }
 {
-    let p = place(n, n, i, i);
-    let s = roots::sqrt(a[p]);
-    f[i] = scale_factor(s);
-}
-
-fn scale_factors(a: &[f64], n: usize, f: &mut [f64])
-    requires { Grid n n a.now × (length f.old ≡ n) }
-    ensures { f.new ≡ scales n a.now }
-{
-    linear::clear(f);
-    for i in 0..n {
-        set_scale(a, n, i, f);
+    for (k, x) in v.iter_mut().enumerate() {
+        *x /= f[k];
     }
 }
 
-fn scale_cell(a: &mut [f64], f: &[f64], n: usize, r: usize, c: usize)
-    requires { Grid n n a.old × (length f.now ≡ n) × (r < n) × (c < n) }
-    ensures { a.new ≡ scale_cell n f.now r c a.old }
-{
-    let p = place(n, n, r, c);
-    a[p] = a[p] / (f[r] * f[c]);
+// The equations JᵀJ δ = Jᵀr of n parameters, in lent memory.
+#[derive(Drop)]
+struct Equations<'a> {
+    n: usize,
+    jt_j: &'a mut [f64],
+    jt_r: &'a mut [f64],
+    ghost grid: { Grid n n jt_j.now },
+    ghost right: { length jt_r.now ≡ n },
+    ghost parameters: { 4 ≤ n },
 }
 
-fn scale_row(a: &mut [f64], f: &[f64], n: usize, r: usize)
-    requires { Grid n n a.old × (length f.now ≡ n) × (r < n) }
-    ensures { a.new ≡ scale_row n f.now r a.old }
-{
-    for c in 0..n {
-        scale_cell(a, f, n, r, c);
+impl Equations<'_> {
+    // The number in row r, column c of the matrix.
+    fn entry(&self, r: usize, c: usize) -> f64
+        requires { (r < self.now.n) × (c < self.now.n) }
+        ensures { result ≡ table_entry self.now.n self.now.jt_j.now r c }
+    {
+        self.jt_j[place(self.n, self.n, r, c)]
     }
-}
 
-fn scale(a: &mut [f64], f: &[f64], n: usize)
-    requires { Grid n n a.old × (length f.now ≡ n) }
-    ensures { a.new ≡ scaled n f.now a.old }
-{
-    for r in 0..n {
-        scale_row(a, f, n, r);
+    fn damp(&mut self, lambda: f64)
+        ensures size { self.new.n ≡ self.old.n }
+        ensures right { self.new.jt_r.now ≡ self.old.jt_r.now }
+        ensures after { self.new.jt_j.now ≡ damped self.old.n lambda self.old.jt_j.now }
+    {
+        for k in 0..self.n {
+            let p = place(self.n, self.n, k, k);
+            self.jt_j[p] += lambda * self.jt_j[p];
+        }
     }
-}
 
-fn divide_at(v: &mut [f64], f: &[f64], k: usize)
-    requires { (k < length v.old) × (k < length f.now) }
-    ensures { v.new ≡ divide_at f.now k v.old }
-{
-    v[k] = v[k] / f[k];
-}
+    fn scale_factors(&self, f: &mut [f64])
+        requires { length f.old ≡ self.now.n }
+        ensures { f.new ≡ scales self.now.n self.now.jt_j.now }
+    {
+        linear::clear(f);
+        for (i, factor) in f.iter_mut().enumerate() {
+            *factor = scale_factor(roots::sqrt(self.entry(i, i)));
+        }
+    }
 
-fn divide(v: &mut [f64], f: &[f64], n: usize)
-    requires { (n ≤ length v.old) × (n ≤ length f.now) }
-    ensures { v.new ≡ divided n f.now v.old }
-{
-    for k in 0..n {
-        divide_at(v, f, k);
+    fn scale_row(&mut self, f: &[f64], r: usize)
+        requires { (length f.now ≡ self.old.n) × (r < self.old.n) }
+        ensures size { self.new.n ≡ self.old.n }
+        ensures right { self.new.jt_r.now ≡ self.old.jt_r.now }
+        ensures after { self.new.jt_j.now ≡ scale_row self.old.n f.now r self.old.jt_j.now }
+    {
+        for c in 0..self.n {
+            let p = place(self.n, self.n, r, c);
+            self.jt_j[p] /= f[r] * f[c];
+        }
+    }
+
+    fn scale(&mut self, f: &[f64])
+        requires { length f.now ≡ self.old.n }
+        ensures size { self.new.n ≡ self.old.n }
+        ensures right { self.new.jt_r.now ≡ self.old.jt_r.now }
+        ensures after { self.new.jt_j.now ≡ scaled self.old.n f.now self.old.jt_j.now }
+    {
+        for r in 0..self.n {
+            self.scale_row(f, r);
+        }
     }
 }
 
 // ---- the new set
 
-fn subtract_at(x: &mut [f64], delta: &[f64], k: usize)
-    requires { (k < length x.old) × (k < length delta.now) }
-    ensures { x.new ≡ subtract_at delta.now k x.old }
+fn subtract(x: &mut [f64], delta: &[f64])
+    requires { length delta.now ≤ length x.old }
+    ensures { x.new ≡ subtracted (length delta.now) delta.now x.old }
 {
-    x[k] = x[k] - delta[k];
-}
-
-fn subtract(x: &mut [f64], delta: &[f64], n: usize)
-    requires { (n ≤ length x.old) × (n ≤ length delta.now) }
-    ensures { x.new ≡ subtracted n delta.now x.old }
-{
-    for k in 0..n {
-        subtract_at(x, delta, k);
+    for (k, d) in delta.iter().enumerate() {
+        x[k] -= *d;
     }
 }
 
 fn hold_to(least: f64, most: f64, v: f64) -> f64
     ensures { result ≡ held_to least most v }
 {
-    let w = float::max(v, least);
-    float::min(w, most)
+    float::min(float::max(v, least), most)
 }
 
 fn hold(x: &mut [f64])
@@ -247,35 +240,26 @@ fn hold(x: &mut [f64])
     x[1] = i;
 }
 
-fn relative_step(x: &[f64], delta: &[f64], k: usize, largest: f64) -> f64
-    requires { (k < length x.now) × (k < length delta.now) }
-    ensures { result ≡ relative x.now delta.now k largest }
-{
-    let size = float::abs(x[k]);
-    let denom = float::max(size, 1e-10);
-    let step = float::abs(delta[k]);
-    float::max(largest, step / denom)
-}
-
-fn largest_step(x: &[f64], delta: &[f64], n: usize) -> f64
-    requires { (n ≤ length x.now) × (n ≤ length delta.now) }
-    ensures { result ≡ largest_step n x.now delta.now }
+fn largest_step(x: &[f64], delta: &[f64]) -> f64
+    requires { length delta.now ≤ length x.now }
+    ensures { result ≡ largest_step (length delta.now) x.now delta.now }
 {
     let mut largest = 0.0;
-    for k in 0..n {
-        largest = relative_step(x, delta, k, largest);
+    for (k, d) in delta.iter().enumerate() {
+        let size = float::max(float::abs(x[k]), 1e-10);
+        largest = float::max(largest, float::abs(*d) / size);
     }
     largest
 }
 
 // x moved by delta, and the size of the step.
-fn take_step(delta: &[f64], n: usize, x: &mut [f64]) -> f64
-    requires { (length delta.now ≡ n) × (length x.old ≡ 68) × (4 ≤ n) × (n ≤ 68) }
-    ensures { next x.new result ≡ stepped_by n x.old delta.now }
+fn take_step(delta: &[f64], x: &mut [f64]) -> f64
+    requires { (length x.old ≡ 68) × (4 ≤ length delta.now) × (length delta.now ≤ 68) }
+    ensures { next x.new result ≡ stepped_by (length delta.now) x.old delta.now }
 {
-    subtract(x, delta, n);
+    subtract(x, delta);
     hold(x);
-    largest_step(x, delta, n)
+    largest_step(x, delta)
 }
 
 // Where a step leads: to the next set, with the step's size; nowhere, for want of residuals, which the caller tests; or nowhere, by a
@@ -287,83 +271,40 @@ pub enum Step {
     Refused(Refusal),
 }
 
-// The system a δ = v solved, and x moved by the solution; in the second refinement it is divided by the scales f.
-fn move_by(
-    second: bool,
-    a: &[f64],
-    v: &[f64],
-    f: &[f64],
-    n: usize,
-    delta: &mut [f64],
-    x: &mut [f64],
-    room: &mut [f64],
-) -> Step
-    requires { Grid n n a.now × (length v.now ≡ n) × (length f.now ≡ n) × (length delta.old ≡ n) × (length x.old ≡ 68) × (4 ≤ n) × (n * (n + 1) ≤ length room.old) }
-    ensures { outcome result x.new ≡ finish second n f.now x.old (solution_of n a.now v.now) }
-{
-    let Ok(()) = linear::solve_linear_system(a, v, n, delta, room) else {
-        return Step::Refused(Refusal::SmallPivot);
-    };
-    if second {
-        divide(delta, f, n);
-        return Step::Next(take_step(delta, n, x));
+impl Equations<'_> {
+    // The equations solved, and x moved by the solution; in the second refinement it is divided by the scales f.
+    fn move_by<const SECOND: bool>(&self, f: &[f64], x: &mut [f64]) -> Step
+        requires { (length f.now ≡ self.now.n) × (length x.old ≡ 68) }
+        ensures { outcome result x.new ≡ finish SECOND self.now.n f.now x.old (solution_of self.now.n self.now.jt_j.now self.now.jt_r.now) }
+    {
+        let n = self.n;
+        let mut room = [0.0; ROOM];
+        let mut delta = [0.0; PARAMS];
+        let delta = &mut delta[..n];
+        let Ok(()) = linear::solve_linear_system(self.jt_j, self.jt_r, n, delta, &mut room) else {
+            return Step::Refused(Refusal::SmallPivot);
+        };
+        if SECOND {
+            divide(delta, f);
+        }
+        Step::Next(take_step(delta, x))
     }
-    Step::Next(take_step(delta, n, x))
-}
 
-// From the damped matrix a and the right side v.
-fn solve_step(
-    second: bool,
-    a: &mut [f64],
-    v: &mut [f64],
-    f: &mut [f64],
-    n: usize,
-    delta: &mut [f64],
-    x: &mut [f64],
-    room: &mut [f64],
-) -> Step
-    requires { Grid n n a.old × (length v.old ≡ n) × (length f.old ≡ n) × (length delta.old ≡ n) × (length x.old ≡ 68) × (4 ≤ n) × (n * (n + 1) ≤ length room.old) }
-    ensures { outcome result x.new ≡ solve_step second n a.old v.old x.old }
-{
-    if !second {
-        return move_by(second, a, v, f, n, delta, x, room);
+    // From the damped equations; in the second refinement they are scaled first.
+    fn solve_step<const SECOND: bool>(&mut self, x: &mut [f64]) -> Step
+        requires { length x.old ≡ 68 }
+        ensures { outcome result x.new ≡ solve_step SECOND self.old.n self.old.jt_j.now self.old.jt_r.now x.old }
+    {
+        let n = self.n;
+        let mut factors = [0.0; PARAMS];
+        let factors = &mut factors[..n];
+        if SECOND {
+            self.scale_factors(factors);
+            self.scale(factors);
+            divide(self.jt_r, factors);
+        }
+        self.move_by::<SECOND>(factors, x)
     }
-    scale_factors(a, n, f);
-    scale(a, f, n);
-    divide(v, f, n);
-    move_by(second, a, v, f, n, delta, x, room)
-}
-
-// The normal equations of the table, damped and solved.
-fn table_step(
-    second: bool,
-    table: &[f64],
-    r: &[f64],
-    n: usize,
-    lambda: f64,
-    a: &mut [f64],
-    v: &mut [f64],
-    x: &mut [f64],
-) -> Step
-    requires { Grid (length r.now) n table.now × Grid n n a.old × (length v.old ≡ n) × (length x.old ≡ 68) × (4 ≤ n) }
-    ensures { outcome result x.new ≡ damped_step second (length r.now) n (table_entry n table.now) (at r.now) lambda x.old }
-{
-    sum_jt_j(table, r.len(), n, a);
-    sum_jt_r(table, r, n, v);
-    damp(a, n, lambda);
-    let mut factors = [0.0; PARAMS];
-    let mut delta = [0.0; PARAMS];
-    let mut room = [0.0; ROOM];
-    solve_step(
-        second,
-        a,
-        v,
-        &mut factors[..n],
-        n,
-        &mut delta[..n],
-        x,
-        &mut room,
-    )
 }
 
 // A step's answer, with the set that it leads to.
@@ -373,31 +314,22 @@ pub struct Stepped {
     pub params: [f64; PARAMS],
 }
 
-// From the table of a set's derivatives, the set's residuals r and the damping lambda.
-pub fn damped_step(
-    second: bool,
-    table: &[f64],
-    r: &[f64],
-    n: usize,
-    lambda: f64,
-    params: [f64; PARAMS],
-) -> Stepped
-    requires { Grid (length r.now) n table.now × (4 ≤ n) }
-    ensures { outcome_of result ≡ damped_step second (length r.now) n (table_entry n table.now) (at r.now) lambda params }
+// From the table of a set's derivatives and its residuals, and the damping lambda: the normal equations, damped and solved.
+pub fn damped_step<const SECOND: bool>(table: &Table, lambda: f64, params: [f64; PARAMS]) -> Stepped
+    ensures { outcome_of result ≡ damped_step SECOND (length table.now.residuals.now) table.now.n
+        (table_entry table.now.n table.now.entries.now) (at table.now.residuals.now) lambda params }
 {
-    let mut jt_j = [0.0; 4624];
-    let mut jt_r = [0.0; PARAMS];
-    let mut next = params;
+    let n = table.n;
     let cells = n * n;
-    let step = table_step(
-        second,
-        table,
-        r,
-        n,
-        lambda,
-        &mut jt_j[..cells],
-        &mut jt_r[..n],
-        &mut next,
-    );
+    let mut jt_j = [0.0; 4624];
+    let jt_j = &mut jt_j[..cells];
+    table.sum_jt_j(jt_j);
+    let mut jt_r = [0.0; PARAMS];
+    let jt_r = &mut jt_r[..n];
+    table.sum_jt_r(jt_r);
+    let mut equations = Equations { n, jt_j, jt_r };
+    equations.damp(lambda);
+    let mut next = params;
+    let step = equations.solve_step::<SECOND>(&mut next);
     Stepped { step, params: next }
 }

@@ -6,7 +6,7 @@ use Prim.Native.Nat.{ℕ, ◌+◌, ◌*◌, ◌≤◌}
 use native.Mathlib.Nat.{mul-le-mul}
 use native.Mathlib.Omega.{arith}
 use lib.ListN.{length, take, drop}
-use lib.Seq.{take_at, drop_at, length-take-le}
+use lib.Seq.{drop_at, length-take-le}
 use lib.Ieee.{Float}
 use Rattle.float.specs.Ops.{at}
 use Rattle.std.specs.Bool.{⊤}
@@ -97,13 +97,11 @@ module _ (second : Bool) (g : Station) (d : Passes) (turns x r : List Float) (ro
         rw (← en, table_far (eps_of second) (residuals second g d) x r (length r) n ready.known e t u l made)
         (ap (λ (r : Refusal). refused (number_of r)) (refused_far made))
 
-    -- s is the scratch with the table at its front
-    pub advance_done : (y : ⊤) (s rest : List Float) (w : Outcome) → Filled (Ok y) u (try 0 n (column_of (eps_of second) (residuals second g d) x r (length r) n) t) → s ≡ u ++ rest
-        → w ≡ damped_step second (length r) n (table_entry n (take (length r * n) s)) (at r) lambda x → w ≡ advance_of second g d lambda x
+    pub advance_done : (y : ⊤) (w : Outcome) → Filled (Ok y) u (try 0 n (column_of (eps_of second) (residuals second g d) x r (length r) n) t)
+        → w ≡ damped_step second (length r) n (table_entry n u) (at r) lambda x → w ≡ advance_of second g d lambda x
     unfolding advance_of
-    advance_done y s rest w made es ew =
+    advance_done y w made ew =
         let tab = table_done (eps_of second) (residuals second g d) x r (length r) n ready.known y t u l made in
-        let front : take (length r * n) s ≡ u = rw es (take_at u rest (length r * n) tab.long) in
         let stepped : damped_step second (length r) n (table_entry n u) (at r) lambda x ≡ damped_step second (length r) n (entry_of (eps_of second) (residuals second g d) x) (residual_at (residuals second g d) x) lambda x
         = step_same (length r) n (table_entry n u) (entry_of (eps_of second) (residuals second g d) x) (at r) (residual_at (residuals second g d) x) tab.holds (λ row h. residual_is row) second lambda x in
-        rw (← en, tab.near, ← ready.rows) (rw front at ew ∙ stepped)
+        rw (← en, tab.near, ← ready.rows) (ew ∙ stepped)

@@ -12,7 +12,7 @@ ghost use Rattle.normal.specs.Normal.{Grid};
 ghost use Rattle.refine.specs.Jacobian.{bias_eps, eps_of, perturbed_of, put_entry, column_of};
 ghost use Rattle.refine.specs.Advance.{advance_of, cells_of, Ready, Advances};
 
-use normal::{Step, Stepped};
+use normal::{Step, Stepped, Table};
 use refusal::Refusal;
 use residuals::{PARAMS, Point, ROWS};
 
@@ -140,11 +140,20 @@ pub fn advance(
     let params = p.params;
     let n = residuals::place_of(second, counts.len());
     let cells = r.len() * n;
-    if let Err(far) = jacobian(p, counts, times, freqs, turns, r, n, &mut scratch[..cells]) {
+    let entries = &mut scratch[..cells];
+    if let Err(far) = jacobian(p, counts, times, freqs, turns, r, n, entries) {
         return Stepped {
             step: Step::Refused(far),
             params,
         };
     }
-    normal::damped_step(second, &scratch[..cells], r, n, lambda, params)
+    let table = Table {
+        residuals: r,
+        n,
+        entries,
+    };
+    if second {
+        return normal::damped_step::<true>(&table, lambda, params);
+    }
+    normal::damped_step::<false>(&table, lambda, params)
 }

@@ -4,4 +4,4 @@ use Rattle.normal.proofs.hold_to.Goals as goal
 
 pub returns : goal.returns
 unfolding held_to
-returns c = simp (c.min.ensures, c.max-w.ensures)
+returns c = simp (c.min.ensures, c.max.ensures)

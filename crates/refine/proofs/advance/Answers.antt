@@ -1,5 +1,6 @@
 -- `advance` meets its contract. Assumes nothing.
 use mathlib.Core.Path.{refl, sym, ◌∙◌}
+use borrow.Author.Rules.{rules}
 use native.Mathlib.Omega.{arith}
 use lib.Seq.{length-take-le}
 use Rattle.refine.proofs.Advances.{columns_few, columns_four, rows_few, cells_few, cells_fit, behind, advance_far, advance_done}
@@ -11,11 +12,11 @@ place_of-n-requires c = c.requires.samples.few
 pub overflow_mul-cells : goal.overflow_mul-cells
 overflow_mul-cells c = omega (arith, cells_few _ _ _ _ _ _ _ _ c.requires c.place_of-n.ensures.0)
 
-pub slice_bounds-jacobian-end : goal.slice_bounds-jacobian-end
-slice_bounds-jacobian-end c = cells_fit _ _ _ _ _ _ _ _ c.requires c.place_of-n.ensures.0
+pub slice_bounds-entries-end : goal.slice_bounds-entries-end
+slice_bounds-entries-end c = cells_fit _ _ _ _ _ _ _ _ c.requires c.place_of-n.ensures.0
 
-pub slice_bounds-jacobian-end-2 : goal.slice_bounds-jacobian-end-2
-slice_bounds-jacobian-end-2 c =
+pub slice_bounds-entries-end-2 : goal.slice_bounds-entries-end-2
+slice_bounds-entries-end-2 c =
     sym (length-take-le _ _ (cells_fit _ _ _ _ _ _ _ _ c.requires c.place_of-n.ensures.0))
 
 pub jacobian-requires : goal.jacobian-requires
@@ -36,27 +37,40 @@ returns-in-Err c =
       behind = behind _ _ _ _ _ _ _ _ pre en c.jacobian.new.table c.args.scratch.now _ (c.jacobian.auto.table ∙ length-take-le _ _ (cells_fit _ _ _ _ _ _ _ _ pre en)) refl;
     }
 
-pub slice_bounds-damped_step-end : goal.slice_bounds-damped_step-end
-slice_bounds-damped_step-end c =
-    omega (arith, cells_fit _ _ _ _ _ _ _ _ c.requires c.place_of-n.ensures.0)
-
-pub slice_bounds-damped_step-end-2 : goal.slice_bounds-damped_step-end-2
-slice_bounds-damped_step-end-2 c =
-    sym (length-take-le _ _ (omega (arith, cells_fit _ _ _ _ _ _ _ _ c.requires c.place_of-n.ensures.0)))
-
-pub damped_step-requires : goal.damped_step-requires
-damped_step-requires c =
+pub invariant_of-table : goal.invariant_of-table
+invariant_of-table c =
     let pre = c.requires in
-    let en = c.place_of-n.ensures.0 in (
-      record { few = rows_few _ _ _ _ _ _ _ _ pre en; narrow = columns_few _ _ _ _ _ _ _ _ pre en; full = length-take-le _ _ (omega (arith, cells_fit _ _ _ _ _ _ _ _ pre en)) },
-      columns_four _ _ _ _ _ _ _ _ pre en,
-    )
+    let en = c.place_of-n.ensures.0 in
+    record {
+      grid = record { few = rows_few _ _ _ _ _ _ _ _ pre en; narrow = columns_few _ _ _ _ _ _ _ _ pre en; full = c.jacobian.auto.table ∙ length-take-le _ _ (cells_fit _ _ _ _ _ _ _ _ pre en) };
+      parameters = columns_four _ _ _ _ _ _ _ _ pre en;
+    }
+
+pub invariant_of-table-2 : goal.invariant_of-table-2
+invariant_of-table-2 c =
+    let pre = c.requires in
+    let en = c.place_of-n.ensures.0 in
+    record {
+      grid = record { few = rows_few _ _ _ _ _ _ _ _ pre en; narrow = columns_few _ _ _ _ _ _ _ _ pre en; full = c.jacobian.auto.table ∙ length-take-le _ _ (cells_fit _ _ _ _ _ _ _ _ pre en) };
+      parameters = columns_four _ _ _ _ _ _ _ _ pre en;
+    }
+
+pub returns-then-second : goal.returns-then-second
+returns-then-second c =
+    let pre = c.requires in
+    let en = c.place_of-n.ensures.0 in
+    let long = length-take-le _ _ (cells_fit _ _ _ _ _ _ _ _ pre en) in
+    record {
+      outcome = advance_done _ _ _ _ _ _ _ _ pre en _ _ _ long _ _ c.in_default.ensures (rw (← c.if-second.true) at c.damped_step.ensures);
+      behind = behind _ _ _ _ _ _ _ _ pre en _ c.args.scratch.now _ (search (rules, long)) refl;
+    }
 
 pub returns : goal.returns
 returns c =
     let pre = c.requires in
     let en = c.place_of-n.ensures.0 in
+    let long = length-take-le _ _ (cells_fit _ _ _ _ _ _ _ _ pre en) in
     record {
-      outcome = advance_done _ _ _ _ _ _ _ _ pre en _ _ _ (length-take-le _ _ (cells_fit _ _ _ _ _ _ _ _ pre en)) _ _ _ _ c.in_default.ensures refl c.damped_step.ensures;
-      behind = behind _ _ _ _ _ _ _ _ pre en c.jacobian.new.table c.args.scratch.now _ (c.jacobian.auto.table ∙ length-take-le _ _ (cells_fit _ _ _ _ _ _ _ _ pre en)) refl;
+      outcome = advance_done _ _ _ _ _ _ _ _ pre en _ _ _ long _ _ c.in_default.ensures (rw (← c.if-second.false) at c.damped_step-2.ensures);
+      behind = behind _ _ _ _ _ _ _ _ pre en _ c.args.scratch.now _ (search (rules, long)) refl;
     }
