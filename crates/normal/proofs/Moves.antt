@@ -11,7 +11,6 @@ use lib.Ieee.{Float}
 use Rattle.float.specs.Ops.{at}
 use Rattle.loops.specs.Loop.{is_some}
 use Rattle.std.proofs.Common.{Some, None, Result, Ok, Err}
-use Rattle.refusal.specs.Numbers as refusal
 use Rattle.refusal.specs.Refusals.{answer}
 use Rattle.refusal.specs.declared.Refusal.{Refusal}
 use Rattle.refusal.specs.declared.Refusal.TheVariants.{SmallPivot}
@@ -41,10 +40,10 @@ module _ (n : ℕ) (a v o o' s s' : List Float) (r : Result (Unit {0}) Refusal) 
       go none q p = cc
       go (some y) q p = ap some (sym (p ∙ ap (y ++◌) (ap (λ (j : ℕ). drop j o) (sym eo) ∙ drop-length o) ∙ append-nil y))
 
-  pub no_pivot : (second : Bool) (f x : List Float) (e : Refusal) → r ≡ Err e → refused refusal.small_pivot ≡ finish second n f x (solution_of n a v)
+  pub no_pivot : (second : Bool) (f x : List Float) (e : Refusal) → r ≡ Err e → refused SmallPivot ≡ finish second n f x (solution_of n a v)
   no_pivot second f x k e = go (solution_of n a v) answered
     where
-      go : (t : Option (List Float)) → r ≡ answer (cond (is_some t) None (Some SmallPivot)) tt → refused refusal.small_pivot ≡ finish second n f x t
+      go : (t : Option (List Float)) → r ≡ answer (cond (is_some t) None (Some SmallPivot)) tt → refused SmallPivot ≡ finish second n f x t
       go none q = refl
       go (some y) q = cc
 

@@ -3,7 +3,8 @@
 use Rattle.std.specs.Prelude.{◌≡◌, refl, Bool, cond, List, ℕ, ◌+◌, ◌*◌, set, replicate, Float}
 use Rattle.std.proofs.Math.Option.{Option, none, some}
 use Rattle.std.specs.Float.Ieee.{lt, of_bits, round}
-use Rattle.refusal.specs.Numbers as refusal
+use Rattle.refusal.specs.declared.Refusal.{Refusal}
+use Rattle.refusal.specs.declared.Refusal.TheVariants.{SmallPivot}
 use Rattle.float.specs.Constant.{decimal}
 use Rattle.float.specs.Ops.{◌⊕◌, ◌⊖◌, ◌⊗◌, ◌⊘◌, bits, one, max_of, min_of, abs_of, at}
 use Rattle.float.specs.Trig.{pi}
@@ -80,11 +81,11 @@ relative x delta k largest = max_of largest (abs_of (at delta k) ⊘ max_of (abs
 unfoldable pub largest_step : ℕ → List Float → List Float → Float
 largest_step n x delta = for 0 n (relative x delta) (bits 0)
 
--- what follows a trial: the next set and the step's size; too few residuals; or a refusal by its number, the solver's 22 or 23
+-- what follows a trial: the next set and the step's size; too few residuals; or a refusal, the solver's 22 or 23
 pub data Outcome : Type 0 where
   next : List Float → Float → Outcome
   short : Outcome
-  refused : ℕ → Outcome
+  refused : Refusal → Outcome
 
 -- from the set x by the step delta
 abbrev pub stepped_by : ℕ → List Float → List Float → Outcome
@@ -95,7 +96,7 @@ abbrev pub unscaled : Bool → ℕ → List Float → List Float → List Float
 unscaled second n f s = cond second (divided n f s) s
 
 abbrev pub finish : Bool → ℕ → List Float → List Float → Option (List Float) → Outcome
-finish second n f x none = refused refusal.small_pivot
+finish second n f x none = refused SmallPivot
 finish second n f x (some s) = stepped_by n x (unscaled second n f s)
 
 -- with the damped matrix a and the right side v

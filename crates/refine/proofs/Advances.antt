@@ -11,7 +11,6 @@ use lib.Ieee.{Float}
 use Rattle.float.specs.Ops.{at}
 use Rattle.std.specs.Bool.{⊤}
 use Rattle.std.proofs.Common.{Result, Ok, Err}
-use Rattle.refusal.specs.Refusals.{number_of}
 use Rattle.refusal.specs.declared.Refusal.{Refusal}
 use Rattle.loops.specs.Loop.{try}
 use Rattle.orbit.specs.declared.doppler.Station.{Station}
@@ -53,28 +52,27 @@ places_four true p = omega arith
 places_four false p = omega arith
 
 -- from a trial that was not refused to the step after it: k residuals are lent of those that the trial left in out
-pub ready_after : (second : Bool) (g : Station) (d : Passes) (turns x out : List Float) (k room : ℕ) (sum : Result Float Refusal) (v : Float) → Samples g d turns
+pub ready_after : (second : Bool) (g : Station) (d : Passes) (x out : List Float) (k room : ℕ) (sum : Result Float Refusal) (v : Float)
     → k ≡ rows_of second (length d.times) (length d.counts) → k ≤ length out
     → Summed (take (rows_of second (length d.times) (length d.counts)) out) (residuals second g d x) sum → sum ≡ Ok v
-    → rows_of second (length d.times) (length d.counts) * place_of second (length d.counts) ≤ room → Ready second g d turns x (take k out) room
-ready_after second g d turns x out k room sum v s e h w q l =
+    → rows_of second (length d.times) (length d.counts) * place_of second (length d.counts) ≤ room → Ready second g d x (take k out) room
+ready_after second g d x out k room sum v e h w q l =
     record {
-      samples = s;
       rows = length-take-le k out h ∙ e;
       known = rw e (summed_known _ _ _ _ w q);
       table = rw (length-take-le k out h, e) l;
     }
 
 -- n is the number of parameters
-module _ (second : Bool) (g : Station) (d : Passes) (turns x r : List Float) (room n : ℕ) (ready : Ready second g d turns x r room) (en : n ≡ place_of second (length d.counts)) where
+module _ (second : Bool) (g : Station) (d : Passes) (turns x r : List Float) (room n : ℕ) (samples : Samples g d turns) (ready : Ready second g d x r room) (en : n ≡ place_of second (length d.counts)) where
   pub columns_few : n ≤ 68
-  columns_few = rw en (places_few second (length d.counts) ready.samples.few)
+  columns_few = rw en (places_few second (length d.counts) samples.few)
 
   pub columns_four : 4 ≤ n
   columns_four = rw en (places_four second (length d.counts))
 
   pub rows_few : length r ≤ 4144
-  rows_few = omega (arith, ready.samples.few, ready.samples.small, ready.rows, rows_fit second (length d.times) (length d.counts))
+  rows_few = omega (arith, samples.few, samples.small, ready.rows, rows_fit second (length d.times) (length d.counts))
 
   pub cells_few : length r * n ≤ 281792
   cells_few = mul-le-mul rows_few columns_few
@@ -91,11 +89,11 @@ module _ (second : Bool) (g : Station) (d : Passes) (turns x r : List Float) (ro
   behind u s s' l e = rw (← en, ← ready.rows, e) (drop_at u (drop (length r * n) s) (length r * n) l)
 
   module _ (lambda : Float) (t u : List Float) (l : length t ≡ length r * n) where
-    pub advance_far : (e : Refusal) → Filled (Err e) u (try 0 n (column_of (eps_of second) (residuals second g d) x r (length r) n) t) → refused (number_of e) ≡ advance_of second g d lambda x
+    pub advance_far : (e : Refusal) → Filled (Err e) u (try 0 n (column_of (eps_of second) (residuals second g d) x r (length r) n) t) → refused e ≡ advance_of second g d lambda x
     unfolding advance_of
     advance_far e made =
         rw (← en, table_far (eps_of second) (residuals second g d) x r (length r) n ready.known e t u l made)
-        (ap (λ (r : Refusal). refused (number_of r)) (refused_far made))
+        (ap refused (refused_far made))
 
     pub advance_done : (y : ⊤) (w : Outcome) → Filled (Ok y) u (try 0 n (column_of (eps_of second) (residuals second g d) x r (length r) n) t)
         → w ≡ damped_step second (length r) n (table_entry n u) (at r) lambda x → w ≡ advance_of second g d lambda x

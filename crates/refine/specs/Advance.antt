@@ -1,9 +1,9 @@
 -- What follows a trial: the table of the set's derivatives, and the damped step.
 use Rattle.std.specs.Prelude.{◌≡◌, Bool, cond, List, ℕ, ◌*◌, ◌≤◌, length, drop, Float}
 use Rattle.std.proofs.Math.Option.{some}
-use Rattle.refusal.specs.Numbers as refusal
+use Rattle.refusal.specs.declared.Refusal.TheVariants.{FarMoment}
 use Rattle.orbit.specs.declared.doppler.Station.{Station}
-use Rattle.residuals.specs.Samples.{Passes, Samples}
+use Rattle.residuals.specs.Samples.{Passes}
 use Rattle.residuals.specs.Residuals.{place_of, rows_of, residuals}
 use Rattle.normal.specs.Step.{Outcome, refused, damped_step}
 use Rattle.normal.specs.Answers.{outcome_of}
@@ -17,11 +17,10 @@ advance_of second g d lambda x =
     let res = residuals second g d in
     let m = rows_of second (length d.times) (length d.counts) in
     let n = place_of second (length d.counts) in
-    cond (any_far eps res x n 0) (refused refusal.far_moment) (damped_step second m n (entry_of eps res x) (residual_at res x) lambda x)
+    cond (any_far eps res x n 0) (refused FarMoment) (damped_step second m n (entry_of eps res x) (residual_at res x) lambda x)
 
--- what a step asks: the fit's samples, the set's residuals r, and room for the table
-pub record Ready (second : Bool) (g : Station) (d : Passes) (turns x r : List Float) (room : ℕ) : Type 0 where
-  pub samples : Samples g d turns
+-- what a step asks: the set's residuals r, and room for the table
+pub record Ready (second : Bool) (g : Station) (d : Passes) (x r : List Float) (room : ℕ) : Type 0 where
   pub rows : length r ≡ rows_of second (length d.times) (length d.counts)
   pub known : some r ≡ residuals second g d x
   pub table : length r * place_of second (length d.counts) ≤ room

@@ -5,15 +5,15 @@
 
 ghost use Rattle.std.specs.Prelude.{◌≡◌, ◌+◌, ◌*◌, ◌<◌, ◌≤◌, length};
 ghost use Rattle.loops.specs.Loop.{for, try};
-ghost use Rattle.residuals.specs.Samples.{passes_of, Samples};
 ghost use Rattle.residuals.specs.Residuals.{rows_of, residuals};
-ghost use Rattle.residuals.specs.Answers.{Filled};
+ghost use Rattle.residuals.specs.Answers.{passes_in, Filled};
 ghost use Rattle.normal.specs.Normal.{Grid};
 ghost use Rattle.refine.specs.Jacobian.{bias_eps, eps_of, perturbed_of, put_entry, column_of};
 ghost use Rattle.refine.specs.Advance.{advance_of, cells_of, Ready, Advances};
 
 use normal::{Step, Stepped, Table};
 use refusal::Refusal;
+use residuals::observations::Observations;
 use residuals::{PARAMS, Point, ROWS};
 
 fn bias_eps(j: usize) -> f64
@@ -27,13 +27,13 @@ fn bias_eps(j: usize) -> f64
     }
 }
 
-fn param_eps(second: bool, k: usize) -> f64
-    ensures { result ≡ eps_of second k }
+fn param_eps<const SECOND: bool>(k: usize) -> f64
+    ensures { result ≡ eps_of SECOND k }
 {
     match k {
         0 => 10.0,
         1..=3 => 1e-6,
-        _ if second => bias_eps((k - 4) % 4),
+        _ if SECOND => bias_eps((k - 4) % 4),
         _ => bias_eps((k - 4) % 2),
     }
 }
@@ -65,83 +65,67 @@ fn put_column(r: &[f64], column: &[f64], n: usize, eps: f64, k: usize, table: &m
 }
 
 // Column k of the table, or the refusal of the moved set's residuals.
-fn jacobian_column(
-    p: Point,
-    counts: &[u32],
-    times: &[u64],
-    freqs: &[f64],
-    turns: &[f64],
+fn jacobian_column<const SECOND: bool>(
+    p: &Point<SECOND>,
+    obs: &Observations,
     r: &[f64],
     n: usize,
     k: usize,
     table: &mut [f64],
 ) -> Result<(), Refusal>
-    requires { Samples p.station (passes_of counts.now times.now freqs.now) turns.now × Grid (length r.now) n table.old
-        × (length r.now ≡ rows_of p.second (length times.now) (length counts.now)) × (k < n) }
-    ensures { Filled result table.new (column_of (eps_of p.second) (residuals p.second p.station (passes_of counts.now times.now freqs.now))
-        p.params r.now (length r.now) n k table.old) }
+    requires { Grid (length r.now) n table.old
+        × (length r.now ≡ rows_of SECOND (length obs.now.times.now) (length obs.now.counts.now)) × (k < n) }
+    ensures { Filled result table.new (column_of (eps_of SECOND) (residuals SECOND obs.now.station (passes_in obs.now))
+        p.now.params r.now (length r.now) n k table.old) }
 {
-    let second = p.second;
-    let station = p.station;
-    let x = p.params;
-    let eps = param_eps(second, k);
-    let params = perturbed(x, k, eps);
+    let eps = param_eps::<SECOND>(k);
     let moved = Point {
-        second,
-        station,
-        params,
+        params: perturbed(p.params, k, eps),
     };
     let mut column = [0.0; ROWS];
-    residuals::residuals_into(moved, counts, times, freqs, turns, &mut column)?;
+    residuals::residuals_into::<SECOND>(&moved, obs, &mut column)?;
     let m = r.len();
     put_column(r, &column[..m], n, eps, k, table);
     Ok(())
 }
 
 // The table, column by column, or the first refusal of a moved set's residuals.
-fn jacobian(
-    p: Point,
-    counts: &[u32],
-    times: &[u64],
-    freqs: &[f64],
-    turns: &[f64],
+fn jacobian<const SECOND: bool>(
+    p: &Point<SECOND>,
+    obs: &Observations,
     r: &[f64],
     n: usize,
     table: &mut [f64],
 ) -> Result<(), Refusal>
-    requires { Samples p.station (passes_of counts.now times.now freqs.now) turns.now × Grid (length r.now) n table.old
-        × (length r.now ≡ rows_of p.second (length times.now) (length counts.now)) }
-    ensures { Filled result table.new (try 0 n (column_of (eps_of p.second) (residuals p.second p.station (passes_of counts.now times.now freqs.now))
-        p.params r.now (length r.now) n) table.old) }
+    requires { Grid (length r.now) n table.old
+        × (length r.now ≡ rows_of SECOND (length obs.now.times.now) (length obs.now.counts.now)) }
+    ensures { Filled result table.new (try 0 n (column_of (eps_of SECOND) (residuals SECOND obs.now.station (passes_in obs.now))
+        p.now.params r.now (length r.now) n) table.old) }
 {
     for k in 0..n {
-        jacobian_column(p, counts, times, freqs, turns, r, n, k, table)?;
+        jacobian_column(p, obs, r, n, k, table)?;
     }
     Ok(())
 }
 
 // Table and step from the set p, its residuals r and the damping lambda. The table lies in the first places of scratch; what
 // is left in them is not promised, since the fit clears it.
-pub fn advance(
-    p: Point,
-    counts: &[u32],
-    times: &[u64],
-    freqs: &[f64],
-    turns: &[f64],
+pub fn advance<const SECOND: bool>(
+    p: &Point<SECOND>,
+    obs: &Observations,
     lambda: f64,
     r: &[f64],
     scratch: &mut [f64],
 ) -> Stepped
-    requires { Ready p.second p.station (passes_of counts.now times.now freqs.now) turns.now p.params r.now (length scratch.old) }
-    ensures { Advances (cells_of p.second (passes_of counts.now times.now freqs.now))
-        (advance_of p.second p.station (passes_of counts.now times.now freqs.now) lambda p.params) scratch.old scratch.new result }
+    requires { Ready SECOND obs.now.station (passes_in obs.now) p.now.params r.now (length scratch.old) }
+    ensures { Advances (cells_of SECOND (passes_in obs.now))
+        (advance_of SECOND obs.now.station (passes_in obs.now) lambda p.now.params) scratch.old scratch.new result }
 {
-    let second = p.second;
     let params = p.params;
-    let n = residuals::place_of(second, counts.len());
+    let n = residuals::place_of::<SECOND>(obs.counts.len());
     let cells = r.len() * n;
     let entries = &mut scratch[..cells];
-    if let Err(far) = jacobian(p, counts, times, freqs, turns, r, n, entries) {
+    if let Err(far) = jacobian(p, obs, r, n, entries) {
         return Stepped {
             step: Step::Refused(far),
             params,
@@ -152,8 +136,5 @@ pub fn advance(
         n,
         entries,
     };
-    if second {
-        return normal::damped_step::<true>(&table, lambda, params);
-    }
-    normal::damped_step::<false>(&table, lambda, params)
+    normal::damped_step::<SECOND>(&table, lambda, params)
 }

@@ -8,34 +8,34 @@ use Rattle.refine.specs.Jacobian.{eps_of}
 use Rattle.refine.proofs.Columns.{column_far, column_put}
 use Rattle.refine.proofs.jacobian_column.Goals as goal
 
-pub perturbed-params-requires : goal.perturbed-params-requires
-perturbed-params-requires c =
+pub perturbed-requires : goal.perturbed-requires
+perturbed-requires g c =
     let pre = c.requires in
-    omega (arith, pre.1.narrow, pre.3)
+    omega (arith, pre.0.narrow, pre.2)
 
 pub residuals_into-requires : goal.residuals_into-requires
-residuals_into-requires c =
+residuals_into-requires g c =
     let pre = c.requires in
-    (pre.0, omega (arith, pre.0.few, pre.0.small))
+    omega (arith, c.args.obs.now.held.few, c.args.obs.now.held.small)
 
 pub returns-in_err-residuals_into : goal.returns-in_err-residuals_into
-returns-in_err-residuals_into c =
+returns-in_err-residuals_into g c =
     let p = err_from_is_err_and c.from_residual.result c.from_residual.ensures.1 in
-    rw (p.1, p.2) (column_far (eps_of _) (residuals _ _ _) _ _ _ _ _ _ _ _ c.param_eps-eps.ensures c.perturbed-params.ensures _ _ _ c.in_err-residuals_into.ensures)
+    rw (p.1, p.2) (column_far (eps_of _) (residuals _ _ _) _ _ _ _ _ _ _ _ c.param_eps-eps.ensures c.perturbed.ensures _ _ _ c.in_err-residuals_into.ensures)
 
 pub slice_bounds-column-end : goal.slice_bounds-column-end
-slice_bounds-column-end c = omega (arith, c.requires.1.few)
+slice_bounds-column-end g c = omega (arith, c.requires.0.few)
 
 pub slice_bounds-put_column-end : goal.slice_bounds-put_column-end
-slice_bounds-put_column-end c = sym (length-take-le _ _ (omega (arith, c.requires.1.few)))
+slice_bounds-put_column-end g c = sym (length-take-le _ _ (omega (arith, c.requires.0.few)))
 
 pub put_column-requires : goal.put_column-requires
-put_column-requires c =
+put_column-requires g c =
     let pre = c.requires in
-    (pre.1, length-take-le _ _ (omega (arith, pre.1.few)), pre.3)
+    (pre.0, length-take-le _ _ (omega (arith, pre.0.few)), pre.2)
 
 pub returns : goal.returns
-returns c =
+returns g c =
     let pre = c.requires in
-    column_put (eps_of _) (residuals _ _ _) _ _ _ _ _ _ _ _ c.param_eps-eps.ensures c.perturbed-params.ensures _ _ _ _
-    c.in_ok-residuals_into.ensures pre.2 c.put_column.ensures
+    column_put (eps_of _) (residuals _ _ _) _ _ _ _ _ _ _ _ c.param_eps-eps.ensures c.perturbed.ensures _ _ _ _
+    c.in_ok-residuals_into.ensures pre.1 c.put_column.ensures
