@@ -12,13 +12,14 @@ use lib.ListN.{length, length-append}
 use lib.Ieee.{Float}
 use Rattle.normal.specs.Step.{Outcome, next, short, refused}
 use Rattle.book.specs.Book.{Search, After, arrival, while_running, onward, Book, open_book, gone_to, noted, trial, following, turn, book}
+use Rattle.refusal.specs.declared.Refusal.{Refusal}
 use Rattle.book.specs.declared.Ending.{Ending}
 use Rattle.book.specs.declared.Ending.TheVariants.{Running, Refused, Short, Damped, Converged}
 
 -- ---- a book that has ended stays as it is
 
 pub data Ended : Ending → Type 0 where
-  by_refusal : {k : ℕ} → Ended (Refused k)
+  by_refusal : {r : Refusal} → Ended (Refused r)
   by_shortness : Ended Short
   by_damping : Ended Damped
   by_convergence : Ended Converged

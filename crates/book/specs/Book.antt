@@ -2,11 +2,14 @@
 -- refinements of the fit keep one; the second's is document 01's. A set is a list of parameters. `sum` gives the penalised sum of a
 -- set's residuals (none is refusal 23), `step` what table and step make of this damping and set; `enough` says that there are as
 -- many residuals as parameters.
-use Rattle.std.specs.Prelude.{◌≡◌, refl, Bool, false, cond, List, [], ◌∷◌, ◌++◌, ℕ, zero, suc, ◌+◌, eqb, Float}
+use Rattle.std.specs.Prelude.{◌≡◌, refl, Bool, false, cond, List, [], ◌∷◌, ◌++◌, ℕ, zero, suc, ◌+◌, eqb, Option as Maybe, Float}
 use Rattle.std.proofs.Math.Option.{Option, none, some}
 use Rattle.std.specs.Float.Ieee.{lt, of_bits, round}
 use Rattle.refusal.specs.Numbers as refusal
 use Rattle.refusal.specs.Order.{first, ◌if◌}
+use Rattle.refusal.specs.Refusals.{number_of, first_of, ◌when◌}
+use Rattle.refusal.specs.declared.Refusal.{Refusal}
+use Rattle.refusal.specs.declared.Refusal.TheVariants.{FarMoment}
 use Rattle.float.specs.Constant.{decimal}
 use Rattle.float.specs.Ops.{◌⊗◌, ◌⊘◌, one, bits, largest}
 use Rattle.normal.specs.Step.{Outcome, next, short, refused}
@@ -67,7 +70,7 @@ judged v s =
 
 -- by the next set's sum, where it has one
 abbrev pub compared : Option Float → Search → After
-compared none s = record { search = s; ended = Refused refusal.far_moment }
+compared none s = record { search = s; ended = Refused FarMoment }
 compared (some v) s = judged v s
 
 -- ---- what follows it
@@ -84,7 +87,7 @@ arrival s (refused k) = record { search = s; ended = Refused k }
 
 -- refusal 23 where the set has no residuals
 abbrev pub unless_far : Option Float → Outcome → Outcome
-unless_far none o = refused refusal.far_moment
+unless_far none o = refused FarMoment
 unless_far (some v) o = o
 
 -- t where it still runs, else b
@@ -100,10 +103,14 @@ while_running Converged t b = b
 -- whether a refinement ended by 23; the solver's 22 ends one and refuses no fit
 abbrev pub far_ending : Ending → Bool
 far_ending Running = false
-far_ending (Refused k) = eqb k refusal.far_moment
+far_ending (Refused r) = eqb (number_of r) refusal.far_moment
 far_ending Short = false
 far_ending Damped = false
 far_ending Converged = false
+
+-- as a refusal, and as its number, or 0
+abbrev pub far_of : Ending → Maybe Refusal
+far_of ended = first_of ((FarMoment when far_ending ended) ∷ [])
 
 abbrev pub far_refusal : Ending → ℕ
 far_refusal ended = first ((refusal.far_moment if far_ending ended) ∷ [])
