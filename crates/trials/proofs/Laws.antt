@@ -5,15 +5,11 @@ use mathlib.Core.List.{List, [], ◌∷◌, ◌++◌, append_assoc}
 use mathlib.Core.Option.{Option, none, some}
 use Prim.Native.Nat.{ℕ, suc, ◌+◌, ◌*◌, ◌<◌, ◌≤◌}
 use native.Mathlib.Numerals.{add-one}
-use native.Mathlib.Omega.{arith}
-use lib.ListN.{length, get_or, take, drop, set, length-append}
-use lib.Seq.{take-suc, take-length, drop-cons, set_at, length-take-le}
+use lib.ListN.{length, take, drop, set, length-append}
+use lib.Seq.{drop-cons, set_at, length-take-le}
 use lib.Ieee.{Float, nan, lt}
-use borrow.Author.Tests.{ne_eqb}
 use Rattle.std.specs.Bool.{⊤}
 use Rattle.std.proofs.Common.{Result, Ok, Err}
-use Rattle.refusal.specs.Numbers as refusal
-use Rattle.refusal.specs.Refusals.{number_of}
 use Rattle.refusal.specs.declared.Refusal.{Refusal}
 use Rattle.refusal.specs.declared.Refusal.TheVariants.{FarMoment}
 use Rattle.float.specs.Ops.{◌⊗◌, ◌⊘◌, bits}
@@ -27,8 +23,7 @@ use Rattle.normal.specs.Answers.{outcome}
 use Rattle.normal.specs.declared.Step.{Step}
 use Rattle.normal.specs.declared.Step.TheVariants.{Next, Short, Refused as RefusedStep}
 use Rattle.refine.specs.Advance.{advance_of, cells_of}
-use Rattle.book.specs.Book.{ten_bits, most_damping_bits, small_step_bits, Search, After, judged, arrival, onward, Book, far_refusal}
-use Rattle.book.specs.declared.Ending.{Ending}
+use Rattle.book.specs.Book.{ten_bits, most_damping_bits, small_step_bits, Search, After, judged, arrival, onward, Book}
 use Rattle.book.specs.declared.Ending.TheVariants.{Running, Damped, Converged, Refused as RefusedEnd}
 use Rattle.trials.specs.Trials.{state_after, rows_in, Tries, Arrives, Follows}
 use Rattle.trials.specs.declared.State.{State}
@@ -75,11 +70,11 @@ module _ (second : Bool) (g : Station) (d : Passes) (x : List Float) where
     abbrev goal : Outcome
     goal = onward (penalised_sum second g d) (advance_of second g d) enough s
 
-    pub onward_far : (e : Refusal) (xs : List Float) → Filled (Err e) xs (residuals second g d x) → refused (number_of e) ≡ goal
+    pub onward_far : (e : Refusal) (xs : List Float) → Filled (Err e) xs (residuals second g d x) → refused e ≡ goal
     unfolding onward penalised_sum
     onward_far e xs f =
         let z : none ≡ residuals second g d x = f.written in
-        rw (here, ← z) (ap (λ (r : Refusal). refused (number_of r)) (refused_far f))
+        rw (here, ← z) (ap refused (refused_far f))
 
     pub onward_short : (xs : List Float) → some xs ≡ residuals second g d x → enough ≡ false → short ≡ goal
     unfolding onward penalised_sum
@@ -108,11 +103,11 @@ module _ (second : Bool) (g : Station) (d : Passes) (s : Search) (r : List Float
       let z = summed second g d s.next _ v a w e in
       record { summed = rw e w; kept = rw z ek; after = rw z j }
 
-  pub tried_far : (e : Refusal) (k : ℕ) (t : State) → Err e ≡ a → k ≡ number_of e → state_after t ≡ record { search = s; ended = RefusedEnd k }
+  pub tried_far : (e : Refusal) (t : State) → Err e ≡ a → state_after t ≡ record { search = s; ended = RefusedEnd e }
       → Tries second g d s r (record { sum = Err e; kept = false; state = t })
-  tried_far e k t q n j =
+  tried_far e t q j =
       let z = summed_far second g d s.next _ e a w q in
-      let m = n ∙ ap number_of (summed_alone second g d s.next _ e a w q) in
+      let m = summed_alone second g d s.next _ e a w q in
       record { summed = rw q w; kept = rw z; after = rw z (rw m at j) }
 
 -- ---- where a step leads
@@ -133,13 +128,6 @@ rows_length rows r h = length-take-le rows r h
 pub table_room : (rows m p room : ℕ) (r : List Float) → rows ≤ length r → rows ≡ m → m * p ≤ room → length (take rows r) * p ≤ room
 table_room rows m p room r h e l = rw (rows_length rows r h, e) l
 
--- ---- the refusal that an ending gives: the solver's is not the fit's
-
-pub not_carried : (e : Ending) (k : ℕ) → e ≡ RefusedEnd k → (k ≡ refusal.far_moment → ⊥) → 0 ≡ far_refusal e
-not_carried e k is h = rw (is, ne_eqb k refusal.far_moment h)
-
--- ---- a copy
-
 -- one more number behind those written
 pub more : (done : List Float) (v : Float) (old out : List Float) (n : ℕ) → length done ≡ n → n < length old → out ≡ done ++ drop n old
     → set out n v ≡ (done ++ (v ∷ [])) ++ drop (n + 1) old
@@ -148,17 +136,6 @@ more done v old out n size h e =
     ∙ set_at done _ (drop (suc n) old) v n size
     ∙ sym (append_assoc done (v ∷ []) (drop (suc n) old))
     ∙ ap (λ (k : ℕ). (done ++ (v ∷ [])) ++ drop k old) (sym (add-one n))
-
-pub put_more : (from old out : List Float) (p : ℕ) → p < length from → p < length old → out ≡ take p from ++ drop p old
-    → set out p (get_or from p nan) ≡ take (p + 1) from ++ drop (p + 1) old
-put_more from old out p h k e =
-    more (take p from) _ old out p (length-take-le p from (omega arith)) k e
-    ∙ ap (λ (l : List Float). l ++ drop (p + 1) old) (sym (ap (λ (n : ℕ). take n from) (add-one p) ∙ take-suc from p nan h))
-
-pub put_all : (from old out : List Float) (p : ℕ) → p ≤ length from → length from ≤ p → out ≡ take p from ++ drop p old → out ≡ from ++ drop (length from) old
-put_all from old out p h k e =
-    let same : p ≡ length from = omega arith in
-    rw (same, take-length) at e
 
 -- ---- the log's slice
 

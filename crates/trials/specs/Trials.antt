@@ -3,7 +3,7 @@ use Rattle.std.specs.Prelude.{◌≡◌, Bool, true, false, List, ◌++◌, ℕ,
 use Rattle.std.proofs.Math.Option.{Option, none, some}
 use Rattle.std.specs.Float.Ieee.{lt}
 use Rattle.orbit.specs.declared.doppler.Station.{Station}
-use Rattle.residuals.specs.Samples.{Passes, Samples}
+use Rattle.residuals.specs.Samples.{Passes}
 use Rattle.residuals.specs.Residuals.{each, rows_of, residuals, penalised_sum}
 use Rattle.residuals.specs.Answers.{Summed}
 use Rattle.normal.specs.Step.{Outcome}
@@ -20,11 +20,6 @@ state_search s = record { next = s.params; best_set = s.best_params; damping = s
 
 abbrev pub state_after : State → After
 state_after s = record { search = state_search s; ended = s.ended }
-
--- what the trials ask: the fit's samples, and room for the table
-pub record TrialsAsk (second : Bool) (g : Station) (d : Passes) (turns : List Float) (room : ℕ) : Type 0 where
-  pub samples : Samples g d turns
-  pub table : cells_of second d ≤ room
 
 -- ---- a turn's first half
 

@@ -1,5 +1,5 @@
 -- `arrive` meets its contract. Assumes nothing.
-use mathlib.Core.Path.{refl, sym, ap, ◌∙◌}
+use mathlib.Core.Path.{refl, sym, ap}
 use Rattle.normal.specs.Answers.{outcome}
 use Rattle.normal.specs.declared.Step.{Step}
 use Rattle.book.specs.Book.{arrival}
@@ -15,9 +15,9 @@ returns-in-Next c =
 pub returns-in-Short : goal.returns-in-Short
 returns-in-Short c =
     let a = c.args in
-    arrives (state_search a.s) a.params a.step a.step _ refl (c.end-state.ensures ∙ ap (λ (p : Step). arrival (state_search a.s) (outcome p a.params)) (sym c.in-Short.is))
+    arrives (state_search a.s) a.params a.step a.step _ refl (ap (λ (p : Step). arrival (state_search a.s) (outcome p a.params)) (sym c.in-Short.is))
 
 pub returns-in-Refused : goal.returns-in-Refused
 returns-in-Refused c =
     let a = c.args in
-    arrives (state_search a.s) a.params a.step _ _ (sym c.in-Refused.is) (rw c.number.ensures at c.end-state-in-Refused.ensures)
+    arrives (state_search a.s) a.params a.step _ _ (sym c.in-Refused.is) refl

@@ -3,4 +3,4 @@ use Rattle.residuals.proofs.Laws.{all_filled}
 use Rattle.trials.proofs.at_hand.Goals as goal
 
 pub returns-then-known : goal.returns-then-known
-returns-then-known c = all_filled (c.requires.1.held c.if-known.true)
+returns-then-known g c = all_filled (c.requires.held c.if-known.true)
