@@ -1,8 +1,7 @@
-// Where the two refinements start. The functions of this crate ask for a pass set that passed refusals 4 and 5, with no empty
-// pass; the fit meets that by proof.
+// What a fit works with, and where its two refinements start from it.
 #![tactic(auto)]
 
-ghost use Rattle.std.specs.Prelude.{◌≡◌, ◌<◌, length};
+ghost use Rattle.std.specs.Prelude.{◌≡◌, ◌<◌, length, replicate};
 ghost use Rattle.moment.specs.Range.{Within};
 ghost use Rattle.pass_set.specs.PassSet.{AtPass};
 ghost use Rattle.approach.specs.Sums.{dt_of};
@@ -12,7 +11,6 @@ ghost use Rattle.start.specs.Start.{
   mean_period,
   radius_of,
   obs_of,
-  next_period,
   periods_of,
   radius_estimate,
   with_elements,
@@ -24,8 +22,19 @@ use approach::View;
 use moment::Instant;
 use orbit::Elements;
 use orbit::doppler::Station;
-use pass_set::Pass;
+use pass_set::{Pass, PassSet};
 use residuals::PARAMS;
+
+// The non-empty passes of a fit, a sample in each, and the station that received them: the first sample's moment as epoch, and one
+// centre for all passes.
+#[derive(Clone, Copy)]
+pub struct Recording<'a> {
+    pub set: PassSet<'a>,
+    pub station: Station,
+    ghost sampled: { SampledPasses set.counts.now set.times.now set.freqs.now },
+    ghost dated: { Within 0 station.epoch.secs station.epoch.nanos },
+    ghost centred: { set.centers.now ≡ replicate (length set.counts.now) station.center_freq },
+}
 
 // ---- the radius
 
@@ -69,63 +78,6 @@ fn radius(t: f64) -> f64
     float::min(float::max(a, solution::LEAST_A), solution::MOST_A)
 }
 
-// The observed closest moment of pass p, whose samples begin at k.
-fn obs_of(counts: &[u32], times: &[i64], freqs: &[f64], center: f64, p: usize, k: usize) -> Instant
-    requires { SampledPasses counts.now times.now freqs.now × AtPass counts.now p k × (p < length counts.now) }
-    ensures { (result ≡ obs_of counts.now times.now freqs.now center p) × Within 0 result.secs result.nanos }
-{
-    let end = k + counts[p] as usize;
-    let pass = Pass {
-        times: &times[k..end],
-        freqs: &freqs[k..end],
-    };
-    approach::pca::obs_pca_time(&pass, center)
-}
-
-// Pass p against the first, whose observed closest moment is t0.
-fn next_period(
-    counts: &[u32],
-    times: &[i64],
-    freqs: &[f64],
-    center: f64,
-    t0: Instant,
-    p: usize,
-    k: usize,
-    s: Periods,
-) -> Periods
-    requires { (SampledPasses counts.now times.now freqs.now × AtPass counts.now p k × (p < length counts.now))
-        × ((t0 ≡ obs_of counts.now times.now freqs.now center 0) × Within 0 t0.secs t0.nanos) }
-    ensures { result ≡ next_period counts.now times.now freqs.now center p s }
-{
-    let t = obs_of(counts, times, freqs, center, p, k);
-    add_period(s, moment::time::tau_millis(t, t0))
-}
-
-fn observed_periods(counts: &[u32], times: &[i64], freqs: &[f64], center: f64) -> Periods
-    requires { SampledPasses counts.now times.now freqs.now × (0 < length counts.now) }
-    ensures { result ≡ periods_of counts.now times.now freqs.now center }
-{
-    let t0 = obs_of(counts, times, freqs, center, 0, 0);
-    let mut s = Periods {
-        sum: 0.0,
-        count: 0.0,
-    };
-    let mut k = counts[0] as usize;
-    for p in 1..counts.len() {
-        s = next_period(counts, times, freqs, center, t0, p, k, s);
-        k = k + counts[p] as usize;
-    }
-    s
-}
-
-// The orbit's radius from the times between the passes.
-pub fn radius_estimate(counts: &[u32], times: &[i64], freqs: &[f64], center: f64) -> f64
-    requires { SampledPasses counts.now times.now freqs.now × (0 < length counts.now) }
-    ensures { result ≡ radius_estimate counts.now times.now freqs.now center }
-{
-    radius(mean_period(observed_periods(counts, times, freqs, center)))
-}
-
 // ---- a refinement's first set
 
 fn with_elements(e: Elements) -> [f64; PARAMS]
@@ -150,39 +102,56 @@ fn dt_of(pass: &Pass, v: View) -> f64
     moment::time::tau_millis(pred, obs)
 }
 
-// The same of pass p, whose samples begin at k.
-fn pass_dt(counts: &[u32], times: &[i64], freqs: &[f64], v: View, p: usize, k: usize) -> f64
-    requires { SampledPasses counts.now times.now freqs.now × AtPass counts.now p k × (p < length counts.now) }
-    ensures { result ≡ pass_dt counts.now times.now freqs.now v.sight.station v.sight.e p }
-{
-    let end = k + counts[p] as usize;
-    let pass = Pass {
-        times: &times[k..end],
-        freqs: &freqs[k..end],
-    };
-    dt_of(&pass, v)
-}
-
-// The first set of a refinement: the orbit, each pass's dt, and no other bias.
-pub fn starting_set(
-    second: bool,
-    counts: &[u32],
-    times: &[i64],
-    freqs: &[f64],
-    g: Station,
-    e: Elements,
-) -> [f64; PARAMS]
-    requires { SampledPasses counts.now times.now freqs.now × Within 0 g.epoch.secs g.epoch.nanos }
-    ensures { result ≡ starting_set counts.now times.now freqs.now g e second }
-{
-    let v = approach::seen(g, e);
-    let mut x = with_elements(v.sight.e);
-    let mut k = 0usize;
-    for p in 0..counts.len() {
-        let dt = pass_dt(counts, times, freqs, v, p, k);
-        let at = residuals::place_of(second, p);
-        x[at] = dt;
-        k = k + counts[p] as usize;
+impl Recording<'_> {
+    // The observed closest moment of pass p, whose samples begin at k.
+    fn obs_of(&self, p: usize, k: usize) -> Instant
+        requires { AtPass self.now.set.counts.now p k × (p < length self.now.set.counts.now) }
+        ensures { (result ≡ obs_of self.now.set.counts.now self.now.set.times.now self.now.set.freqs.now self.now.station.center_freq p) × Within 0 result.secs result.nanos }
+    {
+        approach::pca::obs_pca_time(&self.set.pass(p, k), self.station.center_freq)
     }
-    x
+
+    // Each later pass against the first.
+    fn observed_periods(&self) -> Periods
+        requires { 0 < length self.now.set.counts.now }
+        ensures { result ≡ periods_of self.now.set.counts.now self.now.set.times.now self.now.set.freqs.now self.now.station.center_freq }
+    {
+        let t0 = self.obs_of(0, 0);
+        let mut s = Periods {
+            sum: 0.0,
+            count: 0.0,
+        };
+        let mut k = self.set.counts[0] as usize;
+        for p in 1..self.set.counts.len() {
+            let t = self.obs_of(p, k);
+            s = add_period(s, moment::time::tau_millis(t, t0));
+            k += self.set.counts[p] as usize;
+        }
+        s
+    }
+
+    // The orbit's radius from the times between the passes.
+    #[tactic(auto, unfolding(crate::specs::Start::radius_estimate))]
+    pub fn radius_estimate(&self) -> f64
+        requires { 0 < length self.now.set.counts.now }
+        ensures { result ≡ radius_estimate self.now.set.counts.now self.now.set.times.now self.now.set.freqs.now self.now.station.center_freq }
+    {
+        radius(mean_period(self.observed_periods()))
+    }
+
+    // The first set of a refinement: the orbit, each pass's dt, and no other bias.
+    pub fn starting_set<const SECOND: bool>(&self, e: Elements) -> [f64; PARAMS]
+        ensures { result ≡ starting_set self.now.set.counts.now self.now.set.times.now self.now.set.freqs.now self.now.station e SECOND }
+    {
+        let v = approach::seen(self.station, e);
+        let mut x = with_elements(e);
+        let mut k = 0usize;
+        for (p, &count) in self.set.counts.iter().enumerate() {
+            let dt = dt_of(&self.set.pass(p, k), v);
+            let at = residuals::place_of::<SECOND>(p);
+            x[at] = dt;
+            k += count as usize;
+        }
+        x
+    }
 }
