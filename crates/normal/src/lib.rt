@@ -139,6 +139,7 @@ fn scale_factor(s: f64) -> f64
     if s > 1e-15 { s } else { 1.0 }
 }
 
+#[tactic(auto, unfolding(crate::specs::Step::divided, crate::specs::Step::divide_at), using(loops::proofs::Laws::loops))]
 fn divide(v: &mut [f64], f: &[f64])
     requires { length v.old ≤ length f.now }
     ensures { v.new ≡ divided (length v.old) f.now v.old }
@@ -215,6 +216,7 @@ impl Equations<'_> {
 
 // ---- the new set
 
+#[tactic(auto, unfolding(crate::specs::Step::subtracted, crate::specs::Step::subtract_at), using(loops::proofs::Laws::loops))]
 fn subtract(x: &mut [f64], delta: &[f64])
     requires { length delta.now ≤ length x.old }
     ensures { x.new ≡ subtracted (length delta.now) delta.now x.old }
@@ -224,6 +226,7 @@ fn subtract(x: &mut [f64], delta: &[f64])
     }
 }
 
+#[tactic(auto, unfolding(crate::specs::Step::held_to))]
 fn hold_to(least: f64, most: f64, v: f64) -> f64
     ensures { result ≡ held_to least most v }
 {
@@ -245,8 +248,8 @@ fn largest_step(x: &[f64], delta: &[f64]) -> f64
     ensures { result ≡ largest_step (length delta.now) x.now delta.now }
 {
     let mut largest = 0.0;
-    for (k, d) in delta.iter().enumerate() {
-        let size = float::max(float::abs(x[k]), 1e-10);
+    for (p, d) in x.iter().zip(delta) {
+        let size = float::max(float::abs(*p), 1e-10);
         largest = float::max(largest, float::abs(*d) / size);
     }
     largest
