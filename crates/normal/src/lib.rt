@@ -67,6 +67,7 @@ impl Table<'_> {
         self.entries[place(self.residuals.len(), self.n, row, c)]
     }
 
+    // Writes v there.
     pub fn put(&mut self, row: usize, c: usize, v: f64)
         requires { (row < length self.old.residuals.now) × (c < self.old.n) }
         ensures size { self.new.n ≡ self.old.n }
