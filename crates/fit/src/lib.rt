@@ -12,13 +12,15 @@ ghost use Rattle.fit.specs.Fit.{observed, start_elements, refined, refined_two, 
 ghost use Rattle.fit.specs.Answer.{arguments, largest_offset, biases, any_large, search_refusals, orbit_of, refused_by, outputs, Fits};
 ghost use Rattle.fit.specs.Work.{Refines, RoomForTwo, Given, Ends, WorkDone, OutputsRoom, Puts};
 
+use approach::turns::Prepared;
 use arguments::MAX_TRIALS;
 use frame::Vec3;
 use moment::Moment;
 use orbit::Elements;
 use orbit::doppler::Station;
-use pass_set::MAX_SAMPLES;
+use pass_set::{MAX_SAMPLES, PassSet};
 use residuals::PARAMS;
+use search::problem::Problem;
 use solution::SolvedOrbit;
 use trials::{Refinement, State, Trials};
 
@@ -54,9 +56,19 @@ fn start_elements(
     ensures { result ≡ start_elements a i (observed counts.now times.now freqs.now g) }
 {
     let centers = [g.center_freq; 2];
-    approach::turns::fill(counts, times, freqs, &centers, scratch);
-    let o = search::Fixed { station: g, a, i };
-    let best = search::search(counts, times, freqs, &centers, scratch, o, 0, 144);
+    let set = PassSet {
+        counts,
+        times,
+        freqs,
+        centers: &centers,
+    };
+    approach::turns::fill(&set, scratch);
+    let passes = Prepared {
+        set,
+        table: Some(&*scratch),
+    };
+    let fixed = search::Fixed { station: g, a, i };
+    let best = search::search(&Problem { passes, fixed }, 0, 144);
     Elements {
         a,
         i,

@@ -17,9 +17,8 @@ use Rattle.refusal.specs.Order.{◌if◌, first}
 use Rattle.moment.specs.Sample.{times_in_range, Timed, instant_at}
 use Rattle.moment.specs.Time.{Sound}
 use Rattle.moment.proofs.Samples.{timed}
-use Rattle.pass_set.specs.PassSet.{sizes_agree}
+use Rattle.pass_set.specs.PassSet.{sizes_agree, SoundSet}
 use Rattle.pass_set.proofs.Laws as laws
-use Rattle.approach.specs.Turns.{SoundSet}
 use Rattle.float.specs.Ops.{bits}
 use Rattle.search.specs.declared.Found.{Found}
 use Rattle.orbit.specs.declared.doppler.Station.{Station}

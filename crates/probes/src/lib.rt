@@ -33,9 +33,10 @@ use book::Ending;
 use frame::Vec3;
 use moment::Instant;
 use orbit::doppler::Station;
-use pass_set::MAX_SAMPLES;
+use pass_set::{MAX_SAMPLES, PassSet};
 use residuals::{PARAMS, Point, ROWS};
 use search::Fixed;
+use search::problem::Problem;
 use trials::{Refinement, State};
 
 // The room of any set's table of rotations, of its residuals, and of a table of their derivatives.
@@ -163,9 +164,19 @@ pub fn search_starts(
             rss: 0.0,
         };
     }
-    approach::turns::fill(counts, times, freqs, centers, table);
-    let o = fixed(times, centers, rec_ecef, a, i);
-    let found = search::search(counts, times, freqs, centers, table, o, 0, 144);
+    let set = PassSet {
+        counts,
+        times,
+        freqs,
+        centers,
+    };
+    approach::turns::fill(&set, table);
+    let passes = approach::turns::Prepared {
+        set,
+        table: Some(&*table),
+    };
+    let fixed = fixed(times, centers, rec_ecef, a, i);
+    let found = search::search(&Problem { passes, fixed }, 0, 144);
     linear::clear(table);
     Searched {
         refusal: 0,

@@ -6,7 +6,6 @@ use Rattle.laws.proofs.Numbers.{sub_step}
 use Rattle.loops.specs.Loop.{for}
 use Rattle.loops.proofs.Laws.{for_ind}
 use Rattle.monna.specs.Rng.{next_state, drawn, draw_of, gaussian_of}
-use Rattle.monna.specs.Digits.{Base}
 use Rattle.monna.specs.declared.rng.SimpleRng.{SimpleRng}
 use Rattle.search.specs.Step.{prime_of, proposal_of, chosen_of, step_of}
 use Rattle.search.specs.Search.{grid_of, after_draws, generator_of, opening_of, finished_of, trajectory_of, trajectory_at, found_by, offer_of, better_of, with_start}
@@ -15,33 +14,9 @@ use Rattle.search.specs.declared.Found.{Found}
 
 -- ---- the bases
 
-base_2 : Base 2
-base_2 = record { least = omega arith; greatest = omega arith }
-
-base_3 : Base 3
-base_3 = record { least = omega arith; greatest = omega arith }
-
-base_5 : Base 5
-base_5 = record { least = omega arith; greatest = omega arith }
-
-base_7 : Base 7
-base_7 = record { least = omega arith; greatest = omega arith }
-
-pub prime_0 : (k : ℕ) → k % 4 ≡ 0 → (2 ≡ prime_of k) × Base 2
+pub prime_last : (k : ℕ) → (k % 4 ≡ 0 → ⊥) → (k % 4 ≡ 1 → ⊥) → (k % 4 ≡ 2 → ⊥) → 7 ≡ prime_of k
 unfolding prime_of
-prime_0 k e = (rw e, base_2)
-
-pub prime_1 : (k : ℕ) → k % 4 ≡ 1 → (3 ≡ prime_of k) × Base 3
-unfolding prime_of
-prime_1 k e = (rw e, base_3)
-
-pub prime_2 : (k : ℕ) → k % 4 ≡ 2 → (5 ≡ prime_of k) × Base 5
-unfolding prime_of
-prime_2 k e = (rw e, base_5)
-
-pub prime_3 : (k : ℕ) → (k % 4 ≡ 0 → ⊥) → (k % 4 ≡ 1 → ⊥) → (k % 4 ≡ 2 → ⊥) → (7 ≡ prime_of k) × Base 7
-unfolding prime_of
-prime_3 k a b c = let e : k % 4 ≡ 3 = omega arith in (rw e, base_7)
+prime_last k a b c = let e : k % 4 ≡ 3 = omega arith in rw e refl
 
 -- ---- the loop that draws
 

@@ -1,11 +1,11 @@
 // The Langevin search for the node and the argument of latitude: from each start of a 12 by 12 grid a trajectory of 15 steps, of
-// which the least sum is kept. Inner functions: they ask for a pass set that passed refusals 4 and 5, and for its table of
-// rotations or an empty one. A start's result depends on the arguments and on its number alone.
+// which the least sum is kept. A start's result depends on the arguments and on its number alone.
 #![tactic(auto)]
 
+pub mod problem;
+
 ghost use Rattle.std.specs.Prelude.{◌≡◌, ◌+◌, ◌<◌, ◌≤◌, length, take};
-ghost use Rattle.monna.specs.Digits.{Base};
-ghost use Rattle.search.specs.Sum.{SumReady, fixed_sum};
+ghost use Rattle.search.specs.Sum.{sum_of};
 ghost use Rattle.search.specs.Step.{
   size_added,
   variation_of,
@@ -24,9 +24,11 @@ ghost use Rattle.search.specs.Step.{
 };
 ghost use Rattle.search.specs.Search.{grid_of, opening_of, finished_of, trajectory_of, found_by, better_of, after_draws, search_of};
 
+use monna::base::Base;
 use monna::rng::SimpleRng;
 use orbit::Elements;
 use orbit::doppler::Station;
+use problem::Problem;
 
 // What a search holds fixed beside its passes.
 #[derive(Clone, Copy)]
@@ -87,26 +89,23 @@ pub struct Found {
     pub rss: f64,
 }
 
-// The sum of squares at two angles.
-fn sum_at(
-    counts: &[u32],
-    times: &[i64],
-    freqs: &[f64],
-    centers: &[f64],
-    table: &[f64],
-    o: Fixed,
-    at: Angles,
-) -> f64
-    requires { SumReady counts.now times.now freqs.now centers.now table.now o }
-    ensures { result ≡ fixed_sum counts.now times.now freqs.now centers.now o at.raan0 at.u0 }
+// The orbit of two angles.
+fn elements(o: Fixed, at: Angles) -> Elements
+    ensures { result ≡ record { a = o.a; i = o.i; raan0 = at.raan0; u0 = at.u0 } }
 {
-    let e = Elements {
+    Elements {
         a: o.a,
         i: o.i,
         raan0: at.raan0,
         u0: at.u0,
-    };
-    approach::sums::rss(counts, times, freqs, centers, table, o.station, e)
+    }
+}
+
+// The sum of squares at two angles.
+fn sum_at(p: &Problem, at: Angles) -> f64
+    ensures { result ≡ sum_of p.now at.raan0 at.u0 }
+{
+    approach::sums::rss(&p.passes, p.fixed.station, elements(p.fixed, at))
 }
 
 fn add_size(x: &[f64], i: usize, sum: f64) -> f64
@@ -147,25 +146,11 @@ fn sign(gradient: f64) -> f64
 }
 
 // The reference's gradient has the base sum and the differences by a and i too, of which the search uses nothing.
-fn gradient_signs(
-    counts: &[u32],
-    times: &[i64],
-    freqs: &[f64],
-    centers: &[f64],
-    table: &[f64],
-    o: Fixed,
-    at: Angles,
-) -> Signs
-    requires { SumReady counts.now times.now freqs.now centers.now table.now o }
-    ensures { result ≡ signs_of (fixed_sum counts.now times.now freqs.now centers.now o) at.raan0 at.u0 }
+fn gradient_signs(p: &Problem, at: Angles) -> Signs
+    ensures { result ≡ signs_of (sum_of p.now) at.raan0 at.u0 }
 {
-    let e = Elements {
-        a: o.a,
-        i: o.i,
-        raan0: at.raan0,
-        u0: at.u0,
-    };
-    let g = approach::sums::gradient(counts, times, freqs, centers, table, o.station, e);
+    let e = elements(p.fixed, at);
+    let g = approach::sums::gradient(&p.passes, p.fixed.station, e);
     Signs {
         raan0: sign(g.grad_raan),
         u0: sign(g.grad_u0),
@@ -198,39 +183,32 @@ fn propose(w: Trajectory, s: Signs) -> Proposal
     }
 }
 
-fn prime(k: usize) -> u64
-    ensures { (result ≡ prime_of k) × Base result }
+fn prime(k: usize) -> Base
+    ensures { result.value ≡ prime_of k }
 {
-    let m = k % 4;
-    if m == 0 {
-        return 2;
+    match k % 4 {
+        0 => Base { value: 2 },
+        1 => Base { value: 3 },
+        2 => Base { value: 5 },
+        _ => Base { value: 7 },
     }
-    if m == 1 {
-        return 3;
-    }
-    if m == 2 {
-        return 5;
-    }
-    7
 }
 
 // A whole number below p^4.
-fn perturbation(uniform: f64, p: u64) -> u64
-    ensures { result ≡ perturbation_of uniform p }
+fn perturbation(uniform: f64, p: Base) -> u64
+    ensures { result ≡ perturbation_of uniform p.value }
 {
-    let q = std::num::nearest_u64_to_f64(p);
+    let q = std::num::nearest_u64_to_f64(p.value);
     float::cast::saturating_f64_to_u64(uniform * (1.0 * q * q * q * q))
 }
 
 // The angle with its 16 digits in base p reversed into a whole number, which the perturbation is added to, and back.
-fn scrambled(angle: f64, p: u64, perturbation: u64) -> f64
-    requires { Base p }
-    ensures { result ≡ scrambled_of angle p perturbation }
+fn scrambled(angle: f64, p: Base, perturbation: u64) -> f64
+    ensures { result ≡ scrambled_of angle p.value perturbation }
 {
-    let base = monna::base::Base { value: p };
-    let val = monna::inner::inverse_value(angle / (2.0 * float::PI), base, 16);
+    let val = monna::inner::inverse_value(angle / (2.0 * float::PI), p, 16);
     let sum = std::num::wrapping_add_u64(val, perturbation);
-    let x = monna::inner::monna_value(sum, base);
+    let x = monna::inner::monna_value(sum, p);
     float::rem_euclid(x * 2.0 * float::PI, 2.0 * float::PI)
 }
 
@@ -301,28 +279,19 @@ fn chosen(
 }
 
 // Step k of a trajectory.
-fn step(
-    counts: &[u32],
-    times: &[i64],
-    freqs: &[f64],
-    centers: &[f64],
-    table: &[f64],
-    o: Fixed,
-    k: usize,
-    w: Trajectory,
-) -> Trajectory
-    requires { SumReady counts.now times.now freqs.now centers.now table.now o × (k < 15) }
-    ensures { result ≡ step_of (fixed_sum counts.now times.now freqs.now centers.now o) k w }
+fn step(p: &Problem, k: usize, w: Trajectory) -> Trajectory
+    requires { k < 15 }
+    ensures { result ≡ step_of (sum_of p.now) k w }
 {
     let at = Angles {
         raan0: w.raan0,
         u0: w.u0,
     };
-    let rss = sum_at(counts, times, freqs, centers, table, o, at);
-    let s = gradient_signs(counts, times, freqs, centers, table, o, at);
+    let rss = sum_at(p, at);
+    let s = gradient_signs(p, at);
     let next = propose(w, s);
     let other = scramble(k, next);
-    let other_rss = sum_at(counts, times, freqs, centers, table, o, other);
+    let other_rss = sum_at(p, other);
     chosen(k, w, rss, next, other, other_rss)
 }
 
@@ -348,56 +317,27 @@ fn opening(from: Angles, rng: SimpleRng) -> Trajectory
 }
 
 // A trajectory with the sum of where it ended.
-fn finished(
-    counts: &[u32],
-    times: &[i64],
-    freqs: &[f64],
-    centers: &[f64],
-    table: &[f64],
-    o: Fixed,
-    w: Trajectory,
-) -> Trajectory
-    requires { SumReady counts.now times.now freqs.now centers.now table.now o }
-    ensures { result ≡ finished_of (fixed_sum counts.now times.now freqs.now centers.now o) w }
+fn finished(p: &Problem, w: Trajectory) -> Trajectory
+    ensures { result ≡ finished_of (sum_of p.now) w }
 {
     let at = Angles {
         raan0: w.raan0,
         u0: w.u0,
     };
-    let final_rss = sum_at(counts, times, freqs, centers, table, o, at);
+    let final_rss = sum_at(p, at);
     let best = kept(w.best, w.raan0, w.u0, final_rss);
-    let rng = w.rng;
-    let history = w.history;
-    Trajectory {
-        raan0: w.raan0,
-        u0: w.u0,
-        best,
-        lr: w.lr,
-        noise_std: w.noise_std,
-        rng,
-        history,
-    }
+    Trajectory { best, ..w }
 }
 
 // The whole trajectory from a start.
-fn langevin_trajectory(
-    counts: &[u32],
-    times: &[i64],
-    freqs: &[f64],
-    centers: &[f64],
-    table: &[f64],
-    o: Fixed,
-    from: Angles,
-    rng: SimpleRng,
-) -> Trajectory
-    requires { SumReady counts.now times.now freqs.now centers.now table.now o }
-    ensures { result ≡ trajectory_of (fixed_sum counts.now times.now freqs.now centers.now o) from.raan0 from.u0 rng }
+fn langevin_trajectory(p: &Problem, from: Angles, rng: SimpleRng) -> Trajectory
+    ensures { result ≡ trajectory_of (sum_of p.now) from.raan0 from.u0 rng }
 {
     let mut w = opening(from, rng);
     for k in 0..15usize {
-        w = step(counts, times, freqs, centers, table, o, k, w);
+        w = step(p, k, w);
     }
-    finished(counts, times, freqs, centers, table, o, w)
+    finished(p, w)
 }
 
 // A grid angle: k times 30 degrees.
@@ -436,18 +376,9 @@ fn advance(rng: SimpleRng, n: usize) -> SimpleRng
 
 // The best of `count` starts from start `first` on, in their order; a tie goes to the earlier. Zeros and the largest f64 where
 // no sum is below that. A trajectory takes 75 draws, so that its generator is the next start's.
-pub fn search(
-    counts: &[u32],
-    times: &[i64],
-    freqs: &[f64],
-    centers: &[f64],
-    table: &[f64],
-    o: Fixed,
-    first: usize,
-    count: usize,
-) -> Found
-    requires { SumReady counts.now times.now freqs.now centers.now table.now o × (first + count ≤ 144) }
-    ensures { result ≡ search_of (fixed_sum counts.now times.now freqs.now centers.now o) first count }
+pub fn search(p: &Problem, first: usize, count: usize) -> Found
+    requires { first + count ≤ 144 }
+    ensures { result ≡ search_of (sum_of p.now) first count }
 {
     let mut rng = advance(SimpleRng::new(1337), first * 75);
     let mut best = Found {
@@ -462,7 +393,7 @@ pub fn search(
             raan0: grid(j / 12),
             u0: grid(j % 12),
         };
-        let w = langevin_trajectory(counts, times, freqs, centers, table, o, from, rng);
+        let w = langevin_trajectory(p, from, rng);
         best = better(best, j, w.best);
         rng = w.rng;
     }

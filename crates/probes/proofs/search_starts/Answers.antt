@@ -10,17 +10,16 @@ returns-then-refusal-ne0 c = rw (← c.refusal_of-refusal.ensures) (search_refus
 pub fill-requires : goal.fill-requires
 fill-requires c =
     let ok = taken _ _ _ _ _ _ (sym c.refusal_of-refusal.ensures ∙ c.if-refusal-ne0.false) in
-    (set_of_lem _ _ _ _ _ _ ok, omega (arith, ok.few, ok.small, ok.enough))
+    omega (arith, ok.few, ok.small, ok.enough)
 
-pub fixed-o-requires : goal.fixed-o-requires
-fixed-o-requires c =
+pub fixed-fixed-requires : goal.fixed-fixed-requires
+fixed-fixed-requires c =
     (taken _ _ _ _ _ _ (sym c.refusal_of-refusal.ensures ∙ c.if-refusal-ne0.false)).timed
 
-pub search-found-requires : goal.search-found-requires
-search-found-requires c =
-    let ok = taken _ _ _ _ _ _ (sym c.refusal_of-refusal.ensures ∙ c.if-refusal-ne0.false) in
-    (record { dated = c.fixed-o.ensures.1; set = set_of_lem _ _ _ _ _ _ ok; tabled = c.fill.ensures.tabled }, omega arith)
+pub invariant_of-set : goal.invariant_of-set
+invariant_of-set c =
+    record { sound = set_of_lem _ _ _ _ _ _ (taken _ _ _ _ _ _ (sym c.refusal_of-refusal.ensures ∙ c.if-refusal-ne0.false)) }
 
 pub returns : goal.returns
 returns c =
-    found _ _ _ _ _ _ (sym c.refusal_of-refusal.ensures ∙ c.if-refusal-ne0.false) (rw c.fixed-o.ensures.0 at c.search-found.ensures) c.fill.ensures.same c.clear.ensures
+    found _ _ _ _ _ _ (sym c.refusal_of-refusal.ensures ∙ c.if-refusal-ne0.false) (rw c.fixed-fixed.ensures.0 at c.search-found.ensures) c.fill.ensures.same c.clear.ensures

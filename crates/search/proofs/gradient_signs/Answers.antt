@@ -6,4 +6,4 @@ use Rattle.search.proofs.gradient_signs.Goals as goal
 
 pub returns : goal.returns
 unfolding signs_of slope_raan slope_u fixed_sum gradient_of
-returns c = simp (c.sign-2.ensures, c.sign.ensures, c.gradient-g.ensures)
+returns c = simp (c.sign-2.ensures, c.sign.ensures, c.gradient-g.ensures, c.elements-e.ensures)

@@ -4,4 +4,4 @@ use Rattle.search.proofs.scramble.Goals as goal
 
 pub returns : goal.returns
 unfolding scramble_of
-returns c = simp (c.scrambled-2.ensures, c.scrambled.ensures, c.perturbation-n.ensures, c.prime-p.ensures.0)
+returns c = simp (c.scrambled-2.ensures, c.scrambled.ensures, c.perturbation-n.ensures, c.prime-p.ensures)

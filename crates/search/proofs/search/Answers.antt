@@ -12,7 +12,7 @@ unfolding search_of largest of_bits
 loop-j-init c = (omega arith, advanced _ c.new.ensures c.advance-rng.ensures, begins refl)
 
 pub overflow_step-j : goal.overflow_step-j
-overflow_step-j c = record { fits = omega (arith, c.loop-j-test.true, c.requires.1) }
+overflow_step-j c = record { fits = omega (arith, c.loop-j-test.true, c.requires) }
 
 pub loop-j-smaller : goal.loop-j-smaller
 loop-j-smaller c = omega arith

@@ -4,4 +4,4 @@ use Rattle.search.proofs.sum_at.Goals as goal
 
 pub returns : goal.returns
 unfolding fixed_sum
-returns c = simp c.rss.ensures
+returns c = simp (c.rss.ensures, c.elements.ensures)
