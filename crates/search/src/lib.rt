@@ -368,7 +368,7 @@ fn advance(rng: SimpleRng, n: usize) -> SimpleRng
     ensures { result ≡ after_draws n rng }
 {
     let mut g = rng;
-    for i in 0..n {
+    for _ in 0..n {
         g = g.next_f64().rng;
     }
     g
