@@ -4,18 +4,16 @@ use Prim.Native.Nat.{ℕ}
 use lib.Ieee.{Float}
 use Rattle.float.specs.Trig.{sin_of, cos_of}
 use Rattle.float.specs.declared.trig.SinCos.{SinCos}
-use Rattle.moment.specs.Time.{Sound, tau_of}
+use Rattle.moment.specs.Time.{Sound}
 use Rattle.frame.specs.Julian.{jd_at}
 use Rattle.frame.specs.Rotation.{theta_of, turn_at}
 use Rattle.frame.specs.declared.State.{State}
 use Rattle.orbit.specs.Orbit.{rates_of, propagated_of, ecef_at, hoisted}
-use Rattle.orbit.specs.Doppler.{received_of, far_moments, adjusted_of, corrected_of, epoch_count, predicted_of}
+use Rattle.orbit.specs.Doppler.{predicted_of}
 use Rattle.orbit.specs.declared.Elements.{Elements}
 use Rattle.orbit.specs.declared.Rates.{Rates}
 use Rattle.orbit.specs.declared.doppler.Station.{Station}
-use Rattle.orbit.specs.declared.doppler.Sight.{Sight}
 use Rattle.std.proofs.Common.{Result}
-use Rattle.refusal.specs.Refusals.{answer}
 use Rattle.refusal.specs.declared.Refusal.{Refusal}
 
 pub turn_is : (turn : SinCos) (jd : Float) (secs nanos : ℕ) → jd ≡ jd_at secs nanos → (turn.sin ≡ sin_of (theta_of jd)) × (turn.cos ≡ cos_of (theta_of jd)) → turn ≡ turn_at secs nanos
@@ -24,20 +22,6 @@ turn_is turn jd secs nanos h p =
 
 pub propagated_at : (e : Elements) (k : Rates) (tau : Float) (turn : SinCos) (r : State) → k ≡ rates_of e → r ≡ propagated_of e k tau turn → r ≡ ecef_at e.a e.i e.raan0 e.u0 tau turn
 propagated_at e k tau turn r j q = (simp j at q) ∙ hoisted e tau turn
-
--- a prediction from what is worked out before, and from the rotation at t_obs
-unfoldable pub predicted_at : (v : Sight) (t : ℕ) (turn : SinCos) (dt near bias : Float) → Result Float Refusal
-predicted_at v t turn dt near bias =
-    let g = v.station in
-    let tAdj = adjusted_of t dt in
-    let tCorr = corrected_of tAdj (propagated_of v.e v.k (tau_of tAdj (epoch_count g)) turn) in
-    answer (far_moments tAdj tCorr)
-    (received_of (propagated_of v.e v.k (tau_of tCorr (epoch_count g)) turn) g.rec_ecef v.u_rec near bias g.center_freq)
-
--- it is the Rust's
-pub predicted_hoisted : (v : Sight) (t : ℕ) (turn : SinCos) (dt near bias : Float) → predicted_at v t turn dt near bias ≡ predicted_of v.station v.e t turn dt near bias
-unfolding predicted_at predicted_of
-predicted_hoisted v t turn dt near bias = simp (v.rates, v.potential, hoisted)
 
 -- where the station, the orbit and the rotation are the ones given
 pub predicted_for : (g s : Station) (e o : Elements) (t : ℕ) (turn turn2 : SinCos) (dt near bias : Float) (r : Result Float Refusal)

@@ -1,7 +1,7 @@
 use Rattle.std.proofs.Common.{sym, refl, ◌∙◌, lit≤}
 use Rattle.moment.proofs.Over.{sound}
 use Rattle.orbit.proofs.Predicts.{adjusted, first_over, second_over, accepted}
-use Rattle.orbit.proofs.Hoisted.{predicted_hoisted}
+use Rattle.orbit.specs.Hoisted.{predicted_hoisted}
 use Rattle.orbit.proofs.doppler.predict.Goals as goal
 
 pub returns-then-over : goal.returns-then-over
