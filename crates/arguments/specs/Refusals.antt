@@ -52,6 +52,13 @@ unfoldable pub enough : ℕ → ℕ → Room → Bool
 enough s p r =
     leb p r.dts && (leb p r.dfs && (leb p r.df1s && (leb p r.df2s && (leb 150 r.log && leb (scratch_size s p) r.scratch))))
 
+-- 21: the lent memory is too short
+abbrev pub room_refusals : ℕ → ℕ → Room → List Check
+room_refusals s p room = (ShortMemory when not (enough s p room)) ∷ []
+
+abbrev pub room_refusal_of : ℕ → ℕ → Room → Option Refusal
+room_refusal_of s p room = first_of (room_refusals s p room)
+
 module _ (counts : List ℕ) (times : List ℤ) (freqs centers : List Float) (rec : Vec3) (a i : Float) where
   abbrev pub input_refusals : List Check → List Check
   input_refusals rest =
@@ -68,7 +75,7 @@ module _ (counts : List ℕ) (times : List ℤ) (freqs centers : List Float) (re
   input_refusal_of = first_of (input_refusals [])
 
   unfoldable pub refusal_of : Room → Option Refusal
-  refusal_of room = first_of (input_refusals ((ShortMemory when not (enough (length times) (length (non_empty counts)) room)) ∷ []))
+  refusal_of room = first_of (input_refusals (room_refusals (length times) (length (non_empty counts)) room))
 
 -- ---- what no refusal says, as facts
 

@@ -2,11 +2,10 @@
 // `accept_room` ask for sizes that passed refusal 5; the fit meets that by proof.
 #![tactic(auto)]
 
-ghost use Rattle.std.specs.Prelude.{◌≡◌, ◌+◌, ◌*◌, ◌≤◌, length, cond, Some, None};
+ghost use Rattle.std.specs.Prelude.{◌≡◌, ◌+◌, ◌*◌, ◌≤◌, length};
 ghost use Rattle.refusal.specs.Refusals.{answer};
-ghost use Rattle.refusal.specs.declared.Refusal.TheVariants.{ShortMemory};
 ghost use Rattle.arguments.specs.Passes.{center_of, Compacts};
-ghost use Rattle.arguments.specs.Refusals.{nan_argument, out_of_range, any_nan, scratch_size, enough, input_refusal_of};
+ghost use Rattle.arguments.specs.Refusals.{nan_argument, out_of_range, any_nan, scratch_size, enough, room_refusal_of, input_refusal_of};
 
 use frame::Vec3;
 use pass_set::MAX_PASSES;
@@ -112,7 +111,7 @@ fn enough(samples: usize, passes: usize, room: Room) -> bool
 // Refused: 21, the lent outputs, the log or the scratch are too short.
 pub fn accept_room(samples: usize, passes: usize, room: Room) -> Result<(), Refusal>
     requires { (samples ≤ 4096) × (passes ≤ 16) }
-    ensures { result ≡ answer (cond (enough samples passes room) None (Some ShortMemory)) tt }
+    ensures { result ≡ answer (room_refusal_of samples passes room) tt }
 {
     if !enough(samples, passes, room) {
         return Err(Refusal::ShortMemory);

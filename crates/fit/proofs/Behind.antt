@@ -10,7 +10,8 @@ use native.Mathlib.Omega.{arith}
 use lib.IntN.{ℤ}
 use lib.ListN.{length, drop, set, replicate}
 use lib.Ieee.{Float}
-use Rattle.refusal.specs.Numbers as refusal
+use Rattle.refusal.specs.declared.Refusal.{Refusal}
+use Rattle.refusal.specs.declared.Refusal.TheVariants.{FarMoment}
 use Rattle.float.specs.Ops.{bits}
 use Rattle.loops.proofs.Laws.{for_ind}
 use Rattle.orbit.specs.declared.Elements.{Elements}
@@ -67,7 +68,7 @@ damped_behind : (second : Bool) (m n : ℕ) (entry : ℕ → ℕ → Float) (res
 unfolding damped_step
 damped_behind second m n entry residual lambda x y size h e = solve_behind second n (damped n lambda (jtj_of n entry m)) (jtr_of n entry residual m) x y size h e
 
-not_far : (far : Bool) (k : ℕ) (o : Outcome) (y : List Float) (size : Float) → cond far (refused k) o ≡ next y size → o ≡ next y size
+not_far : (far : Bool) (k : Refusal) (o : Outcome) (y : List Float) (size : Float) → cond far (refused k) o ≡ next y size → o ≡ next y size
 not_far true k o y size e = cc
 not_far false k o y size e = e
 
@@ -82,7 +83,7 @@ module _ (second : Bool) (g : Station) (d : Passes) (lambda : Float) (x y : List
       let res = residuals second g d in
       let m = rows_of second (length d.times) (length d.counts) in
       damped_behind second m n (entry_of eps res x) (residual_at res x) lambda x y size (places_four second (length d.counts))
-      (not_far (any_far eps res x n 0) refusal.far_moment (damped_step second m n (entry_of eps res x) (residual_at res x) lambda x) y size e)
+      (not_far (any_far eps res x n 0) FarMoment (damped_step second m n (entry_of eps res x) (residual_at res x) lambda x) y size e)
 
 -- ---- the starting set
 

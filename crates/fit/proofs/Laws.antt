@@ -81,7 +81,7 @@ pub puts : (t : Trials) (n : ℕ) (times : List ℤ) (sums : List Float) (o : Ou
     → h ≡ biases 3 t.state.best_params n ++ drop n o.df2s
     → l ≡ take t.count sums ++ drop (length (take t.count sums)) o.log
     → q ≡ orbit_of t.state.best_params times
-    → Puts t n times sums o (outputs d f g h l) (record { refusal = 0; orbit = q; trials = t.count; best = t.state.best })
+    → Puts t n times sums o (outputs d f g h l) (record { orbit = q; trials = t.count; best = t.state.best })
 puts t n times sums o d f g h l q a b c e i j =
     let x : List Float = t.state.best_params in
     record {

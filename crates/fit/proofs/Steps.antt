@@ -2,50 +2,54 @@
 use mathlib.Core.Path.{◌≡◌, refl, sym, ap, ◌∙◌}
 use mathlib.Core.Bool.{Bool, true, false, cond}
 use mathlib.Core.List.{List, [], ◌∷◌}
-use Prim.Native.Nat.{ℕ, ◌+◌, ◌*◌, ◌≤◌, ◌<◌}
+use Prim.Native.Nat.{ℕ, zero, suc, ◌+◌, ◌*◌, ◌≤◌, ◌<◌}
 use native.Mathlib.Nat.{le_trans, mul-le-mul, mul-le-mul_left}
 use native.Mathlib.Omega.{arith}
 use lib.Dec.{leb}
 use lib.IntN.{ℤ, pos}
-use lib.ListN.{length, get_or, take}
+use lib.ListN.{length, get_or, take, replicate}
 use lib.Seq.{length-take-le, get_or-take}
 use lib.Ieee.{Float}
-use Rattle.refusal.specs.Numbers as refusal
-use Rattle.refusal.specs.Order.{first}
+use Rattle.std.proofs.Common.{Some, None}
+use Rattle.refusal.specs.Refusals.{first_of}
+use Rattle.refusal.specs.declared.Refusal.{Refusal}
+use Rattle.refusal.specs.declared.Refusal.TheVariants.{FarMoment}
 use Rattle.moment.specs.Sample.{Timed, instant_at}
 use Rattle.moment.proofs.Samples.{within_sound}
 use Rattle.frame.specs.declared.Vec3.{Vec3}
 use Rattle.orbit.specs.declared.Elements.{Elements}
-use Rattle.orbit.specs.declared.doppler.Station.{Station}
-use Rattle.pass_set.specs.PassSet.{start_of, total}
+use Rattle.pass_set.specs.PassSet.{start_of, total, SoundSet}
 use Rattle.pass_set.proofs.Laws.{start_zero, start_next, start_fits}
 use Rattle.search.specs.Sum.{fixed_sum}
 use Rattle.search.specs.Search.{search_of}
 use Rattle.search.specs.declared.Found.{Found}
-use Rattle.residuals.specs.Samples.{passes_of, counts_at, station_of, DatedTimes, Rotations}
+use Rattle.residuals.specs.Samples.{passes_of, counts_at, station_of, DatedTimes, Rotations, Samples}
 use Rattle.residuals.specs.Residuals.{rows_of, place_of, elements_of, penalised_sum}
 use Rattle.residuals.proofs.Samples.{counts_length, counts_dated}
 use Rattle.refine.specs.Advance.{advance_of}
-use Rattle.book.specs.Book.{Search, book, far_ending, far_refusal}
+use Rattle.book.specs.Book.{Search, book, far_ending, far_of}
 use Rattle.book.specs.declared.Ending.{Ending}
 use Rattle.trials.specs.Trials as trials
-use Rattle.trials.specs.Trials.{RunsTo, Runs, TrialsAsk}
+use Rattle.trials.specs.Trials.{RunsTo, Runs}
 use Rattle.trials.specs.declared.Trials.{Trials}
 use Rattle.trials.specs.declared.State.{State}
-use Rattle.start.specs.Start.{starting_set}
+use Rattle.start.specs.Start.{SampledPasses, starting_set}
+use Rattle.start.specs.declared.Recording.{Recording}
 use Rattle.start.proofs.Given.{first_passes}
 use Rattle.arguments.specs.Refusals.{scratch_size}
 use Rattle.fit.specs.Fit.{Observations, observed, first_two, best_start, start_elements, refined, refined_two, first_book, trial_book}
-use Rattle.fit.specs.Answer.{search_refusals}
-use Rattle.fit.specs.Work.{Refines, RoomForTwo, Given, Ends, WorkDone}
+use Rattle.fit.specs.Answer.{search_refusals, work_refusals}
+use Rattle.fit.specs.Work.{Refines, RoomForTwo, Roomy, Ends}
 
 -- ---- the start
 
-pub elements_found : (a i : Float) (x : Observations) (f : Found)
-    → f ≡ search_of (fixed_sum x.counts x.times x.freqs (x.station.center_freq ∷ x.station.center_freq ∷ []) (record { station = x.station; a = a; i = i })) 0 144
+pub elements_found : (a i : Float) (x : Observations) (centers : List Float) (f : Found) → length x.counts ≡ 2 → centers ≡ replicate (length x.counts) x.station.center_freq
+    → f ≡ search_of (fixed_sum x.counts x.times x.freqs centers (record { station = x.station; a = a; i = i })) 0 144
     → ◌≡◌ {A = Elements} (record { a = a; i = i; raan0 = f.raan0; u0 = f.u0 }) (start_elements a i x)
 unfolding start_elements best_start
-elements_found a i x f h = rw h
+elements_found a i x centers f two e h =
+    let centred : centers ≡ x.station.center_freq ∷ x.station.center_freq ∷ [] = e ∙ ap (λ (n : ℕ). replicate n x.station.center_freq) two in
+    rw (h, centred)
 
 -- ---- a refinement
 
@@ -56,22 +60,19 @@ module _ (times : List ℤ) (moments : List ℕ) (is : moments ≡ counts_at tim
   pub moments_dated : Timed times → DatedTimes moments
   moments_dated h = rw is (counts_dated times h)
 
-module _ {second : Bool} {most : ℕ} {g : Station} {counts : List ℕ} {times : List ℤ} {freqs : List Float} {log scratch : ℕ} (s : Refines second most g counts times freqs log scratch) where
-  pub asks : (moments : List ℕ) (turns : List Float) (room : ℕ) → moments ≡ counts_at times → Rotations moments turns
-      → room ≡ scratch → TrialsAsk second g (passes_of counts moments freqs) turns room
-  asks moments turns room is t e =
-      let same = moments_length times moments is in
-      record {
-        samples = record {
-          epoch = within_sound 0 g.epoch.secs g.epoch.nanos (omega arith) s.dated;
-          few = s.set.sizes.few;
-          small = rw same s.set.sizes.small;
-          whole = s.set.sizes.whole ∙ sym same;
-          pairs = s.set.sizes.pairs ∙ sym same;
-          turned = t;
-        };
-        table = rw (same, e) s.table;
-      }
+-- a recording's samples, as the residuals take them
+pub sampled : (x : Recording) (moments : List ℕ) (turns : List Float) → moments ≡ counts_at x.set.times.now → Rotations moments turns → Samples x.station (passes_of x.set.counts.now moments x.set.freqs.now) turns
+sampled x moments turns is t =
+    let same = moments_length x.set.times.now moments is in
+    let s = x.sampled in
+    record {
+      epoch = within_sound 0 x.station.epoch.secs x.station.epoch.nanos (omega arith) x.dated;
+      few = s.sizes.few;
+      small = rw same s.sizes.small;
+      whole = s.sizes.whole ∙ sym same;
+      pairs = s.sizes.pairs ∙ sym same;
+      turned = t;
+    }
 
 pub runs_refined : (second enough : Bool) (most : ℕ) (e : Elements) (x : Observations) (moments : List ℕ) (start old log : List Float) (cells : ℕ) (scratch scratch' : List Float) (t : Trials)
     → moments ≡ counts_at x.times → start ≡ starting_set x.counts x.times x.freqs x.station e second
@@ -83,11 +84,9 @@ runs_refined second enough most e x moments start old log cells scratch scratch'
 
 -- ---- two passes
 
-pub two_refines : {g : Station} {counts : List ℕ} {times : List ℤ} {freqs : List Float} {scratch : ℕ} (room : ℕ) → room ≡ scratch → RoomForTwo g counts times freqs scratch
-    → Refines false 100 g counts times freqs 100 room
+pub two_refines : {x : Recording} {scratch : ℕ} (room : ℕ) → room ≡ scratch → RoomForTwo x scratch → Refines false 100 x 100 room
 unfolding rows_of place_of
-two_refines room e s =
-    record { dated = s.dated; set = s.set; some = s.some; log_room = omega arith; few = omega arith; table = rw (s.two, e) s.table }
+two_refines room e s = record { log_room = omega arith; few = omega arith; table = rw (s.two, e) s.table }
 
 pub two_ends : (a i : Float) (x : Observations) (e : Elements) (rows : ℕ) (old log : List Float) (t : Trials) → e ≡ start_elements a i x → rows ≡ rows_of false (length x.times) (length x.counts)
     → RunsTo (refined false (leb 8 rows) 100 e x) old log t → Ends (refined_two a i x) t.state
@@ -102,25 +101,46 @@ pub two_start : (counts : List ℕ) → 2 ≤ length counts → get_or counts 0 
 two_start counts h =
     omega (arith, start_zero counts, start_next counts 0 (omega arith), start_next counts 1 (omega arith))
 
-module _ {g : Station} {counts : List ℕ} {times : List ℤ} {freqs : List Float} {scratch : ℕ} (s : Given g counts times freqs scratch) where
+module _ (x : Recording) {scratch : ℕ} (s : Roomy x scratch) where
+  abbrev counts : List ℕ
+  counts = x.set.counts.now
+
+  abbrev times : List ℤ
+  times = x.set.times.now
+
   pub two_fits : get_or counts 0 0 + get_or counts 1 0 ≤ length times
-  two_fits = omega (arith, two_start counts s.two, start_next counts 1 (omega (arith, s.two)), start_fits counts 1 (omega (arith, s.two)), s.set.sizes.whole)
+  two_fits = omega (arith, two_start counts s.two, start_next counts 1 (omega (arith, s.two)), start_fits counts 1 (omega (arith, s.two)), x.sampled.sizes.whole)
 
-  pub some_times : 0 < length times
-  some_times = omega (arith, two_fits, s.set.each 0 (omega (arith, s.two)))
-
-  pub gives_two : (n : ℕ) → n ≡ get_or counts 0 0 + get_or counts 1 0 → RoomForTwo g (take 2 counts) (take n times) (take n freqs) scratch
-  unfolding scratch_size
-  gives_two n e =
+  -- the first two are a recording
+  pub two_sampled : (n : ℕ) → n ≡ get_or counts 0 0 + get_or counts 1 0 → SampledPasses (take 2 counts) (take n times) (take n x.set.freqs.now)
+  two_sampled n e =
       let at : n ≡ start_of counts 2 = e ∙ two_start counts s.two in
-      let size : length (take n times) ≡ n = length-take-le n times (omega (arith, two_fits, e)) in
+      rw at (first_passes 2 x.sampled)
+
+  pub two_set : (n : ℕ) → n ≡ get_or counts 0 0 + get_or counts 1 0 → SoundSet (take 2 counts) (take n times) (take n x.set.freqs.now) (take 2 x.set.centers.now)
+  two_set n e =
+      let p = two_sampled n e in
+      let same : length (take 2 x.set.centers.now) ≡ length (take 2 counts) = length-take-le 2 x.set.centers.now (omega (arith, s.two, x.set.sound.sizes.centred)) ∙ sym (length-take-le 2 counts s.two) in
+      record { sizes = rw same p.sizes; timed = p.timed }
+
+  pub two_centred : take 2 x.set.centers.now ≡ replicate (length (take 2 counts)) x.station.center_freq
+  two_centred = go (length counts) s.two x.centred ∙ ap (λ (n : ℕ). replicate n x.station.center_freq) (sym (length-take-le 2 counts s.two))
+    where
+      go : (n : ℕ) → 2 ≤ n → x.set.centers.now ≡ replicate n x.station.center_freq → take 2 x.set.centers.now ≡ replicate 2 x.station.center_freq
+      go zero h e = absurd (omega arith)
+      go (suc zero) h e = absurd (omega arith)
+      go (suc (suc n)) h e = ap (take 2) e
+
+  -- with room enough
+  pub room_for_two : (y : Recording) → y.set.counts.now ≡ take 2 counts → y.set.times.now ≡ take (get_or counts 0 0 + get_or counts 1 0) times → RoomForTwo y scratch
+  unfolding scratch_size
+  room_for_two y c t =
+      let n : ℕ = get_or counts 0 0 + get_or counts 1 0 in
+      let size : length (take n times) ≡ n = length-take-le n times (omega (arith, two_fits)) in
       record {
-        dated = s.dated;
-        set = rw at (first_passes 2 s.set);
-        two = length-take-le 2 counts s.two;
-        some = omega (arith, size, e, s.set.each 0 (omega (arith, s.two)));
+        two = rw c (length-take-le 2 counts s.two);
         rotations = omega (arith, s.room);
-        table = rw size (le_trans (mul-le-mul (wide {t = length times} {p = length counts} n (omega (arith, two_fits, e)) s.two) (deep {p = length counts} s.two)) (omega (arith, s.room)));
+        table = rw (t, size) (le_trans (mul-le-mul (wide {t = length times} {p = length counts} n (omega (arith, two_fits)) s.two) (deep {p = length counts} s.two)) (omega (arith, s.room)));
       }
     where
       wide : {t p : ℕ} (n : ℕ) → n ≤ t → 2 ≤ p → n + 2 ≤ t + 3 * p
@@ -148,17 +168,10 @@ table_all t p room h =
     let m = mul-le-mul_left {m = 4 + 4 * p} {n = 5 + 4 * p} (t + 3 * p) (omega arith) in
     omega (arith, m, h)
 
-pub all_refines : {g : Station} {counts : List ℕ} {times : List ℤ} {freqs : List Float} {scratch : ℕ} (log room : ℕ) → 150 ≤ log → room ≡ scratch → Given g counts times freqs scratch
-    → Refines true 150 g counts times freqs log room
+pub all_refines : {x : Recording} {scratch : ℕ} (log room : ℕ) → 150 ≤ log → room ≡ scratch → Roomy x scratch → Refines true 150 x log room
 unfolding rows_of place_of scratch_size
-all_refines {g} {counts} {times} {freqs} {scratch} log room h e s = record {
-  dated = s.dated;
-  set = s.set;
-  some = some_times s;
-  log_room = h;
-  few = omega arith;
-  table = rw e (table_all (length times) (length counts) scratch s.room);
-}
+all_refines {x} {scratch} log room h e s =
+    record { log_room = h; few = omega arith; table = rw e (table_all (length x.set.times.now) (length x.set.counts.now) scratch s.room) }
 
 second_runs : (x : Observations) (a i : Float) (old log : List Float) (k : Elements) (t : Trials) → k ≡ elements_of (first_book a i x).search.best_set → RunsTo (refined true true 150 k x) old log t
     → RunsTo (trial_book a i x) old log t
@@ -167,30 +180,30 @@ second_runs x a i old log k t e r = rw e at r
 
 -- ---- the refusal that an ending gives
 
-module _ (r : ℕ) (e : Ending) (is : r ≡ far_refusal e) where
-  by_test : (b : Bool) → r ≡ cond b refusal.far_moment 0 → (r ≡ 0 → ⊥) → (r ≡ refusal.far_moment) × (b ≡ true)
-  by_test true h z = (h, refl)
-  by_test false h z = absurd (z h)
-
-  pub far_number : (r ≡ 0 → ⊥) → r ≡ refusal.far_moment
-  far_number z = (by_test (far_ending e) is z).0
-
-  pub far_ended : (r ≡ 0 → ⊥) → far_ending e ≡ true
-  far_ended z = (by_test (far_ending e) is z).1
-
-  pub not_far : r ≡ 0 → far_ending e ≡ false
-  not_far z = go (far_ending e) is
+module _ (e : Ending) where
+  pub far_ended : (r : Refusal) → Some r ≡ far_of e → (r ≡ FarMoment) × (far_ending e ≡ true)
+  far_ended r = go (far_ending e)
     where
-      go : (b : Bool) → r ≡ cond b refusal.far_moment 0 → b ≡ false
-      go true h = absurd (omega (arith, z, h))
+      go : (b : Bool) → Some r ≡ cond b (Some FarMoment) None → (r ≡ FarMoment) × (b ≡ true)
+      go true h = (cc, refl)
+      go false h = absurd cc
+
+  pub not_far : None ≡ far_of e → far_ending e ≡ false
+  not_far = go (far_ending e)
+    where
+      go : (b : Bool) → None ≡ cond b (Some FarMoment) None → b ≡ false
+      go true h = absurd cc
       go false h = refl
 
-module _ (x : Observations) (a i : Float) (old log : List Float) (s : State) (e : Ends (first_book a i x) s) where
-  pub solves_far : (r : ℕ) (t : Trials) → r ≡ far_refusal s.ended → (r ≡ 0 → ⊥) → WorkDone x a i old log (record { refusal = r; trials = t })
-  solves_far r t h z = record { refused = rw (← e.ended, far_ended r s.ended h z) (far_number r s.ended h z); runs = λ y. absurd (z y) }
+module _ (x : Observations) (a i : Float) (s : State) (e : Ends (first_book a i x) s) where
+  -- 23 from the first refinement
+  pub solves_far : (r : Refusal) → Some r ≡ far_of s.ended → first_of (work_refusals (first_book a i x) (trial_book a i x) (length x.counts)) ≡ Some r
+  solves_far r h = let f = far_ended s.ended r h in rw (← e.ended, f.1, f.0)
 
-  pub solves : (r : ℕ) (t : Trials) (k : Elements) → far_ending s.ended ≡ false → k ≡ elements_of s.best_params → RunsTo (refined true true 150 k x) old log t
-      → r ≡ first (search_refusals t.state.ended (trials.state_search t.state) (length x.counts)) → WorkDone x a i old log (record { refusal = r; trials = t })
-  solves r t k h q run is =
-      let b = second_runs x a i old log k t (q ∙ ap (λ (y : Search). elements_of y.best_set) e.search) run in
-      record { refused = rw (← e.ended, h, ← b.ended, ← b.search) is; runs = λ z. b }
+  module _ (q : None ≡ far_of s.ended) (old log : List Float) (t : Trials) (k : Elements) (h : k ≡ elements_of s.best_params) (run : RunsTo (refined true true 150 k x) old log t) where
+    pub second : RunsTo (trial_book a i x) old log t
+    second = second_runs x a i old log k t (h ∙ ap (λ (y : Search). elements_of y.best_set) e.search) run
+
+    -- those of the second
+    pub solves : first_of (work_refusals (first_book a i x) (trial_book a i x) (length x.counts)) ≡ first_of (search_refusals t.state.ended (trials.state_search t.state) (length x.counts))
+    solves = rw (← e.ended, not_far s.ended q, ← second.ended, ← second.search)

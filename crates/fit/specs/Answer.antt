@@ -1,8 +1,9 @@
 -- What the fit answers and writes, for every input.
-use Rattle.std.specs.Prelude.{◌≡◌, refl, Bool, false, not, ◌||◌, List, [], ◌∷◌, ◌++◌, ℕ, zero, suc, ◌+◌, ◌*◌, ℤ, pos, length, get_or, drop, replicate, Float}
+use Rattle.std.specs.Prelude.{◌≡◌, refl, Bool, false, not, ◌||◌, List, [], ◌∷◌, ◌++◌, ℕ, zero, suc, ◌+◌, ◌*◌, ℤ, pos, length, get_or, drop, replicate, Float, Option, Result}
 use Rattle.std.specs.Float.Ieee.{lt, of_bits, round}
-use Rattle.refusal.specs.Numbers as refusal
-use Rattle.refusal.specs.Order.{Refusal, first, ◌if◌}
+use Rattle.refusal.specs.Refusals.{Check, ◌when◌, first_of, answer, written}
+use Rattle.refusal.specs.declared.Refusal.{Refusal}
+use Rattle.refusal.specs.declared.Refusal.TheVariants.{ShortMemory, FarMoment, LargeSum, LargeOffset}
 use Rattle.float.specs.Constant.{decimal}
 use Rattle.float.specs.Ops.{bits, abs_of, at}
 use Rattle.moment.specs.Sample.{moment_at}
@@ -14,7 +15,8 @@ use Rattle.book.specs.Demand.{largest_sum}
 use Rattle.book.specs.declared.Ending.{Ending}
 use Rattle.arguments.specs.Passes.{non_empty, center_of}
 use Rattle.arguments.specs.Refusals as given
-use Rattle.arguments.specs.Refusals.{Room, input_refusals, enough}
+use Rattle.arguments.specs.Refusals.{input_refusals, enough}
+use Rattle.arguments.specs.declared.Room.{Room}
 use Rattle.fit.specs.Fit.{Observations, observed, radius, first_book, trial_book}
 use Rattle.fit.specs.declared.Fit.{Fit}
 
@@ -68,47 +70,37 @@ any_large (d ∷ ds) = lt largest_offset (abs_of d) || any_large ds
 
 -- of a second refinement that ended so: a moment too far, the best sum (the largest f64 where none was kept) above 1e11, a df0
 -- above 500 kHz
-abbrev pub search_refusals : Ending → Search → ℕ → List Refusal
+abbrev pub search_refusals : Ending → Search → ℕ → List Check
 search_refusals ended s passes =
-    (refusal.far_moment if far_ending ended)
-    ∷ (refusal.large_sum if lt largest_sum s.best)
-    ∷ (refusal.large_offset if any_large (biases 1 s.best_set passes))
+    (FarMoment when far_ending ended)
+    ∷ (LargeSum when lt largest_sum s.best)
+    ∷ (LargeOffset when any_large (biases 1 s.best_set passes))
     ∷ []
 
 -- while it works: 23 comes from either refinement
-abbrev pub work_refusals : Book → Book → ℕ → List Refusal
-work_refusals b c passes = (refusal.far_moment if far_ending b.ended) ∷ search_refusals c.ended c.search passes
+abbrev pub work_refusals : Book → Book → ℕ → List Check
+work_refusals b c passes = (FarMoment when far_ending b.ended) ∷ search_refusals c.ended c.search passes
 
 -- all, in document 01's order: of the input, of the lent memory, and of the work
-unfoldable pub fit_refusal : Arguments → Room → ℕ
-fit_refusal x room = first (
+unfoldable pub fit_refusal : Arguments → Room → Option Refusal
+fit_refusal x room = first_of (
     input_refusals x.counts x.times x.freqs x.centers x.rec x.a x.i
-    ((refusal.short_memory if not (enough (length x.times) (pass_count x) room))
+    ((ShortMemory when not (enough (length x.times) (pass_count x) room))
     ∷ work_refusals (first_book_of x) (book_of x) (pass_count x)))
 
 -- those before it works
-abbrev pub early_refusal : Arguments → Room → ℕ
+abbrev pub early_refusal : Arguments → Room → Option Refusal
 early_refusal x room = given.refusal_of x.counts x.times x.freqs x.centers x.rec x.a x.i room
 
 -- ---- the answer
-
-abbrev pub zero_orbit : SolvedOrbit
-zero_orbit = record { a = bits 0; i = bits 0; raan0 = bits 0; u0 = bits 0; epoch = record { seconds = pos 0; nanos = 0 } }
 
 -- a set's orbit, at the first sample's moment
 abbrev pub orbit_of : List Float → List ℤ → SolvedOrbit
 orbit_of s times = record { a = at s 0; i = at s 1; raan0 = at s 2; u0 = at s 3; epoch = moment_at (get_or times 0 (pos 0)) }
 
--- refused: the number, and zeros; accepted: the book's best set, count and best sum
-abbrev pub refused_by : ℕ → Fit
-refused_by n = record { refusal = n; orbit = zero_orbit; trials = 0; best = bits 0 }
-
+-- the book's best set, count and best sum
 abbrev pub fit_found : Search → ℕ → List ℤ → Fit
-fit_found s count times = record { refusal = 0; orbit = orbit_of s.best_set times; trials = count; best = s.best }
-
-unfoldable pub fit_answer : ℕ → Book → List ℤ → Fit
-fit_answer zero b times = fit_found b.search b.count times
-fit_answer (suc n) b times = refused_by (suc n)
+fit_found s count times = record { orbit = orbit_of s.best_set times; trials = count; best = s.best }
 
 -- the lent outputs
 pub record Outputs : Type 0 where
@@ -135,17 +127,8 @@ filled_outputs s n log o =
     outputs (over (biases 0 s n) o.dts) (over (biases 1 s n) o.dfs) (over (biases 2 s n) o.df1s) (over (biases 3 s n) o.df2s)
     (over log o.log)
 
--- the outputs afterwards: a refusal writes nothing
-unfoldable pub written_outputs : ℕ → Book → ℕ → Outputs → Outputs
-written_outputs zero b n o = filled_outputs b.search.best_set n b.log o
-written_outputs (suc k) b n o = o
-
--- the scratch afterwards: untouched by the refusals up to 21, else all zeros
-unfoldable pub cleared_scratch : ℕ → List Float → List Float
-cleared_scratch zero old = replicate (length old) (bits 0)
-cleared_scratch (suc k) old = old
-
-pub record Fits (x : Arguments) (o o' : Outputs) (scratch scratch' : List Float) (r : Fit) : Type 0 where
-  pub answered : r ≡ fit_answer (fit_refusal x (output_room o scratch)) (book_of x) x.times
-  pub filled : o' ≡ written_outputs (fit_refusal x (output_room o scratch)) (book_of x) (pass_count x) o
-  pub zeros : scratch' ≡ cleared_scratch (early_refusal x (output_room o scratch)) scratch
+-- A refusal writes nothing, and leaves the scratch untouched up to 21; afterwards it is all zeros.
+pub record Fits (x : Arguments) (o o' : Outputs) (scratch scratch' : List Float) (r : Result Fit Refusal) : Type 0 where
+  pub answered : r ≡ answer (fit_refusal x (output_room o scratch)) (fit_found (book_of x).search (book_of x).count x.times)
+  pub filled : o' ≡ written (fit_refusal x (output_room o scratch)) (filled_outputs (book_of x).search.best_set (pass_count x) (book_of x).log o) o
+  pub zeros : scratch' ≡ written (early_refusal x (output_room o scratch)) (replicate (length scratch) (bits 0)) scratch

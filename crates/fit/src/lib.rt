@@ -2,72 +2,55 @@
 // and it meets that by proof.
 #![tactic(auto)]
 
-ghost use Rattle.std.specs.Prelude.{◌≡◌, ◌||◌, ◌++◌, ◌≤◌, ◌<◌, length, drop};
+ghost use Rattle.std.specs.Prelude.{◌≡◌, ◌||◌, ◌++◌, ◌+◌, ◌*◌, ◌≤◌, ◌<◌, length, drop};
 ghost use Rattle.std.specs.Float.Ieee.{lt};
-ghost use Rattle.refusal.specs.Order.{first};
+ghost use Rattle.refusal.specs.Refusals.{first_of, answer};
 ghost use Rattle.float.specs.Ops.{abs_of};
 ghost use Rattle.moment.specs.Sample.{Timed};
 ghost use Rattle.trials.specs.Trials.{state_search, RunsTo};
-ghost use Rattle.fit.specs.Fit.{observed, start_elements, refined, refined_two, first_book};
-ghost use Rattle.fit.specs.Answer.{arguments, largest_offset, biases, any_large, search_refusals, orbit_of, refused_by, outputs, Fits};
-ghost use Rattle.fit.specs.Work.{Refines, RoomForTwo, Given, Ends, WorkDone, OutputsRoom, Puts};
+ghost use Rattle.fit.specs.Fit.{start_elements, refined, refined_two, first_book};
+ghost use Rattle.fit.specs.Answer.{arguments, largest_offset, biases, any_large, search_refusals, orbit_of, outputs, Fits};
+ghost use Rattle.fit.specs.Work.{observed_in, Refines, RoomForTwo, Roomy, Ends, WorkDone, OutputsRoom, Puts};
 
 use approach::turns::Prepared;
-use arguments::MAX_TRIALS;
+use arguments::{MAX_TRIALS, Room};
 use frame::Vec3;
-use moment::Moment;
 use orbit::Elements;
 use orbit::doppler::Station;
-use pass_set::{MAX_SAMPLES, PassSet};
+use pass_set::{MAX_PASSES, MAX_SAMPLES, PassSet};
+use refusal::Refusal;
 use residuals::PARAMS;
+use residuals::observations::Observations;
 use search::problem::Problem;
 use solution::SolvedOrbit;
-use trials::{Refinement, State, Trials};
+use start::Recording;
+use trials::{State, Trials};
 
-// A refusal's number with zeros, or 0 with the orbit, the number of trials and the best sum.
+// What a fit finds: the orbit, how many trials the second refinement made, and the best of their sums.
 #[derive(Clone, Copy)]
 pub struct Fit {
-    pub refusal: u32,
     pub orbit: SolvedOrbit,
     pub trials: usize,
     pub best: f64,
 }
 
-// What the work came to: 23, 24, 25 or 0, and the second refinement's trials where it is 0.
-#[derive(Clone, Copy)]
-pub struct Solved {
-    pub refusal: u32,
-    pub trials: Trials,
-}
-
 // ---- from the first guess to the second refinement
 
-// The best start of the two passes, for the semi-major axis a. The scratch holds the table of rotations meanwhile.
-fn start_elements(
-    a: f64,
-    counts: &[u32],
-    times: &[i64],
-    freqs: &[f64],
-    g: Station,
-    i: f64,
-    scratch: &mut [f64],
-) -> Elements
-    requires { RoomForTwo g counts.now times.now freqs.now (length scratch.old) }
-    ensures { result ≡ start_elements a i (observed counts.now times.now freqs.now g) }
+// The best start of two passes, for the semi-major axis a. The scratch holds the table of rotations meanwhile.
+fn start_elements(a: f64, x: &Recording, i: f64, scratch: &mut [f64]) -> Elements
+    requires { RoomForTwo x.now (length scratch.old) }
+    ensures { result ≡ start_elements a i (observed_in x.now) }
 {
-    let centers = [g.center_freq; 2];
-    let set = PassSet {
-        counts,
-        times,
-        freqs,
-        centers: &centers,
-    };
-    approach::turns::fill(&set, scratch);
+    approach::turns::fill(&x.set, scratch);
     let passes = Prepared {
-        set,
+        set: x.set,
         table: Some(&*scratch),
     };
-    let fixed = search::Fixed { station: g, a, i };
+    let fixed = search::Fixed {
+        station: x.station,
+        a,
+        i,
+    };
     let best = search::search(&Problem { passes, fixed }, 0, 144);
     Elements {
         a,
@@ -78,78 +61,61 @@ fn start_elements(
 }
 
 // A refinement of these passes from the elements e, of at most `most` trials.
-fn refine_passes(
-    w: Refinement,
+fn refine_passes<const SECOND: bool>(
+    x: &Recording,
+    enough: bool,
     most: usize,
     e: Elements,
-    counts: &[u32],
-    times: &[i64],
-    freqs: &[f64],
     log: &mut [f64],
     scratch: &mut [f64],
 ) -> Trials
-    requires { Refines w.second most w.station counts.now times.now freqs.now (length log.old) (length scratch.old) }
-    ensures { RunsTo (refined w.second w.enough most e (observed counts.now times.now freqs.now w.station)) log.old log.new result }
+    requires { Refines SECOND most x.now (length log.old) (length scratch.old) }
+    ensures { RunsTo (refined SECOND enough most e (observed_in x.now)) log.old log.new result }
 {
     let mut moments = [0u64; MAX_SAMPLES];
     let mut turns = [0.0; 8192];
-    let n = times.len();
-    residuals::counts_at(times, &mut moments);
+    let n = x.set.times.len();
+    residuals::counts_at(x.set.times, &mut moments);
     residuals::rotations(&moments[..n], &mut turns);
-    let start = start::starting_set(w.second, counts, times, freqs, w.station, e);
-    trials::refine_trials(
-        w,
-        most,
-        counts,
-        &moments[..n],
-        freqs,
-        &turns,
-        start,
-        log,
-        scratch,
-    )
+    let obs = Observations {
+        station: x.station,
+        counts: x.set.counts,
+        times: &moments[..n],
+        freqs: x.set.freqs,
+        turns: &turns,
+    };
+    let start = x.starting_set::<SECOND>(e);
+    trials::refine_trials::<SECOND>(&obs, enough, most, start, log, scratch)
 }
 
 // Search and first refinement of two passes, for the semi-major axis a.
-fn refine_two(
-    a: f64,
-    counts: &[u32],
-    times: &[i64],
-    freqs: &[f64],
-    g: Station,
-    i: f64,
-    scratch: &mut [f64],
-) -> State
-    requires { RoomForTwo g counts.now times.now freqs.now (length scratch.old) }
-    ensures { Ends (refined_two a i (observed counts.now times.now freqs.now g)) result }
+fn refine_two(a: f64, x: &Recording, i: f64, scratch: &mut [f64]) -> State
+    requires { RoomForTwo x.now (length scratch.old) }
+    ensures { Ends (refined_two a i (observed_in x.now)) result }
 {
-    let e = start_elements(a, counts, times, freqs, g, i, scratch);
-    let rows = residuals::rows_of(false, times.len(), counts.len());
+    let e = start_elements(a, x, i, scratch);
+    let rows = residuals::rows_of::<false>(x.set.times.len(), x.set.counts.len());
     let mut log = [0.0; 100];
-    let w = Refinement {
-        second: false,
-        enough: 8 <= rows,
-        station: g,
-    };
-    let t = refine_passes(w, 100, e, counts, times, freqs, &mut log, scratch);
-    t.state
+    refine_passes::<false>(x, 8 <= rows, 100, e, &mut log, scratch).state
 }
 
 // Search and first refinement, on the first two passes.
-fn refine_first(
-    a: f64,
-    counts: &[u32],
-    times: &[i64],
-    freqs: &[f64],
-    g: Station,
-    i: f64,
-    scratch: &mut [f64],
-) -> State
-    requires { Given g counts.now times.now freqs.now (length scratch.old) }
-    ensures { Ends (first_book a i (observed counts.now times.now freqs.now g)) result }
+fn refine_first(a: f64, x: &Recording, i: f64, scratch: &mut [f64]) -> State
+    requires { Roomy x.now (length scratch.old) }
+    ensures { Ends (first_book a i (observed_in x.now)) result }
 {
-    let n = counts[0] as usize + counts[1] as usize;
-    refine_two(a, &counts[..2], &times[..n], &freqs[..n], g, i, scratch)
+    let n = x.set.counts[0] as usize + x.set.counts[1] as usize;
+    let set = PassSet {
+        counts: &x.set.counts[..2],
+        times: &x.set.times[..n],
+        freqs: &x.set.freqs[..n],
+        centers: &x.set.centers[..2],
+    };
+    let two = Recording {
+        set,
+        station: x.station,
+    };
+    refine_two(a, &two, i, scratch)
 }
 
 // Whether it was so already, or this df0 is too large.
@@ -175,86 +141,45 @@ fn any_large(x: [f64; PARAMS], passes: usize) -> bool
     large
 }
 
-// The refusal of a second refinement that ended in this state, or 0.
-fn state_refusal(s: State, passes: usize) -> u32
+// Refused: 23, 24 and 25, by where a second refinement ended.
+fn accept_state(s: State, passes: usize) -> Result<(), Refusal>
     requires { passes ≤ 16 }
-    ensures { result ≡ first (search_refusals s.ended (state_search s) passes) }
+    ensures { result ≡ answer (first_of (search_refusals s.ended (state_search s) passes)) tt }
 {
-    let e = s.ended;
-    let far = trials::far_refusal(e);
-    if far != 0 {
-        return far;
+    if let Some(far) = trials::far_refusal(s.ended) {
+        return Err(far);
     }
     if s.best > 1e11 {
-        return refusal::LARGE_SUM;
+        return Err(Refusal::LargeSum);
     }
-    let best_params = s.best_params;
-    if any_large(best_params, passes) {
-        return refusal::LARGE_OFFSET;
+    if any_large(s.best_params, passes) {
+        return Err(Refusal::LargeOffset);
     }
-    0
+    Ok(())
 }
 
-// Both refinements. The second's sums go to the log.
+// Both refinements. The second's sums go to the log. Refused: 23 from either, 24 and 25.
 fn refine_both(
     a: f64,
-    counts: &[u32],
-    times: &[i64],
-    freqs: &[f64],
-    g: Station,
+    x: &Recording,
     i: f64,
     log: &mut [f64],
     scratch: &mut [f64],
-) -> Solved
-    requires { Given g counts.now times.now freqs.now (length scratch.old) × (150 ≤ length log.old) }
-    ensures { WorkDone (observed counts.now times.now freqs.now g) a i log.old log.new result }
+) -> Result<Trials, Refusal>
+    requires { Roomy x.now (length scratch.old) × (150 ≤ length log.old) }
+    ensures { WorkDone (observed_in x.now) a i log.old log.new result }
 {
-    let s = refine_first(a, counts, times, freqs, g, i, scratch);
-    let ended = s.ended;
-    let refined = s.best_params;
-    let e = residuals::elements_of(refined);
-    let far = trials::far_refusal(ended);
-    if far != 0 {
-        return Solved {
-            refusal: far,
-            trials: Trials { count: 0, state: s },
-        };
+    let s = refine_first(a, x, i, scratch);
+    if let Some(far) = trials::far_refusal(s.ended) {
+        return Err(far);
     }
-    let w = Refinement {
-        second: true,
-        enough: true,
-        station: g,
-    };
-    let trials = refine_passes(w, MAX_TRIALS, e, counts, times, freqs, log, scratch);
-    let last = trials.state;
-    Solved {
-        refusal: state_refusal(last, counts.len()),
-        trials,
-    }
+    let e = residuals::elements_of(s.best_params);
+    let trials = refine_passes::<true>(x, true, MAX_TRIALS, e, log, scratch);
+    accept_state(trials.state, x.set.counts.len())?;
+    Ok(trials)
 }
 
 // ---- the answer
-
-// A refusal's number, and zeros.
-pub fn refused(refusal: u32) -> Fit
-    ensures { result ≡ refused_by refusal }
-{
-    Fit {
-        refusal,
-        orbit: SolvedOrbit {
-            a: 0.0,
-            i: 0.0,
-            raan0: 0.0,
-            u0: 0.0,
-            epoch: Moment {
-                seconds: 0,
-                nanos: 0,
-            },
-        },
-        trials: 0,
-        best: 0.0,
-    }
-}
 
 // The orbit of a set, at the first sample's moment.
 fn orbit_of(x: [f64; PARAMS], times: &[i64]) -> SolvedOrbit
@@ -298,20 +223,17 @@ fn put_answer(
         (outputs dts.old dfs.old df1s.old df2s.old log.old)
         (outputs dts.new dfs.new df1s.new df2s.new log.new) result }
 {
-    let s = t.state;
-    let x = s.best_params;
+    let x = t.state.best_params;
     let n = t.count;
     put_biases(0, x, passes, dts);
     put_biases(1, x, passes, dfs);
     put_biases(2, x, passes, df1s);
     put_biases(3, x, passes, df2s);
     trials::put(&sums[..n], log);
-    let orbit = orbit_of(x, times);
     Fit {
-        refusal: 0,
-        orbit,
+        orbit: orbit_of(x, times),
         trials: n,
-        best: s.best,
+        best: t.state.best,
     }
 }
 
@@ -331,55 +253,43 @@ pub fn fit_orbit_doppler(
     df2s: &mut [f64],
     log: &mut [f64],
     scratch: &mut [f64],
-) -> Fit
+) -> Result<Fit, Refusal>
     ensures { Fits (arguments counts.now times.now freqs.now centers.now rec_ecef initial_a initial_i)
         (outputs dts.old dfs.old df1s.old df2s.old log.old)
         (outputs dts.new dfs.new df1s.new df2s.new log.new) scratch.old scratch.new result }
 {
-    let early = arguments::input_refusal(
+    arguments::accept_input(
         counts, times, freqs, centers, rec_ecef, initial_a, initial_i,
-    );
-    if early != 0 {
-        return refused(early);
-    }
+    )?;
     let kept = arguments::non_empty(counts);
-    let list = kept.counts;
     let passes = kept.passes;
-    if !arguments::has_room(
-        times.len(),
-        passes,
-        dts.len(),
-        dfs.len(),
-        df1s.len(),
-        df2s.len(),
-        log.len(),
-        scratch.len(),
-    ) {
-        return refused(refusal::SHORT_MEMORY);
-    }
+    let room = Room {
+        dts: dts.len(),
+        dfs: dfs.len(),
+        df1s: df1s.len(),
+        df2s: df2s.len(),
+        log: log.len(),
+        scratch: scratch.len(),
+    };
+    arguments::accept_room(times.len(), passes, room)?;
     let center_freq = arguments::first_center(counts, centers);
-    let epoch = approach::pca::moment_at(times, 0);
-    let g = Station {
-        epoch,
+    let station = Station {
+        epoch: approach::pca::moment_at(times, 0),
         center_freq,
         rec_ecef,
     };
-    let a_est = start::radius_estimate(&list[..passes], times, freqs, center_freq);
-    let mut sums = [0.0; MAX_TRIALS];
-    let w = refine_both(
-        a_est,
-        &list[..passes],
+    let same_centers = [center_freq; MAX_PASSES];
+    let set = PassSet {
+        counts: &kept.counts[..passes],
         times,
         freqs,
-        g,
-        initial_i,
-        &mut sums,
-        scratch,
-    );
+        centers: &same_centers[..passes],
+    };
+    let x = Recording { set, station };
+    let a_est = x.radius_estimate();
+    let mut sums = [0.0; MAX_TRIALS];
+    let done = refine_both(a_est, &x, initial_i, &mut sums, scratch);
     linear::clear(scratch);
-    if w.refusal != 0 {
-        return refused(w.refusal);
-    }
-    let t = w.trials;
-    put_answer(t, passes, times, &sums, dts, dfs, df1s, df2s, log)
+    let t = done?;
+    Ok(put_answer(t, passes, times, &sums, dts, dfs, df1s, df2s, log))
 }

@@ -17,4 +17,4 @@ pub returns : goal.returns
 returns c =
     let a = c.args in
     puts a.t a.passes a.times.now a.sums.now (outputs a.dts.now a.dfs.now a.df1s.now a.df2s.now a.log.now) _ _ _ _ _ _
-    c.put_biases.ensures c.put_biases-2.ensures c.put_biases-3.ensures c.put_biases-4.ensures c.put.ensures c.orbit_of-orbit.ensures
+    c.put_biases.ensures c.put_biases-2.ensures c.put_biases-3.ensures c.put_biases-4.ensures c.put.ensures c.orbit_of.ensures
