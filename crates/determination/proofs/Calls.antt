@@ -24,34 +24,33 @@ use Rattle.stored.proofs.Whole.{fits}
 use Rattle.fit.specs.Answer.{Arguments, arguments, refused_by, Outputs, Fits}
 use Rattle.fit.specs.declared.Fit.{Fit}
 use Rattle.tle.specs.Answer.{Formats}
-use Rattle.tle.specs.declared.Catalog.{Catalog}
-use Rattle.determination.specs.Calls.{no_lines, Determines, bytes_refusal, DeterminesStored}
+use Rattle.determination.specs.Calls.{Determines, bytes_refusal, DeterminesStored}
 use Rattle.determination.specs.declared.Determination.{Determination}
 use Rattle.determination.proofs.Demand.{accepted, demand}
 
 -- ---- fit and lines
 
 module _ {x : Arguments} {w w' : Outputs} {scratch scratch' : List Float} {r : Fit} (f : Fits x w w' scratch scratch' r) (name text : List ℕ) where
-  pub fit_refused : {d : Determination} → (r.refusal ≡ 0 → ⊥) → d ≡ record { fit = r; lines = no_lines r.refusal }
+  pub fit_refused : {d : Determination} → (r.refusal ≡ 0 → ⊥) → d ≡ record { fit = r; lines = None }
       → Determines x w w' scratch scratch' name text text d
   fit_refused some e =
       rw e (record {
         fits = f;
         formats = λ z. absurd (some z);
-        unwritten = λ _. record { answered = refl; untouched = refl };
+        unwritten = λ _. record { none = refl; untouched = refl };
         accepted = λ z. absurd (some z);
-        demand = λ z _. absurd (some z);
+        demand = λ z _ _. absurd (some z);
       })
 
-  pub fit_accepted : {text' : List ℕ} {c : Catalog} → r.refusal ≡ 0 → Formats name r.orbit text text' c
-      → Determines x w w' scratch scratch' name text text' (record { fit = r; lines = c })
+  pub fit_accepted : {text' : List ℕ} {c : Result ℕ Refusal} → r.refusal ≡ 0 → Formats name r.orbit text text' c
+      → Determines x w w' scratch scratch' name text text' (record { fit = r; lines = Some c })
   fit_accepted {text'} {c} ok g =
       record {
         fits = f;
         formats = λ _. g;
         unwritten = λ h. absurd (omega arith);
         accepted = λ _. accepted x w w' scratch scratch' r f ok;
-        demand = λ _ printed. demand x w w' scratch scratch' r f ok name text text' c g printed;
+        demand = λ _ n e. demand x w w' scratch scratch' r f ok name text text' n (let s : c ≡ Ok n = cc in rw s at g);
       }
 
 -- ---- the set that was loaded
@@ -160,7 +159,7 @@ module _ {b counts counts' : List ℕ} {times times' : List ℤ} {freqs freqs' :
 
   -- ---- from stored bytes
   pub bytes_refused : {w : Outputs} {scratch : List Float} {name text : List ℕ} {d : Determination} (rec : Vec3) (a i : Float) {x : Refusal} → r ≡ Err x
-      → {f : Fit} → f ≡ refused_by (number_of x) → d ≡ record { fit = f; lines = no_lines f.refusal } → DeterminesStored b centers rec a i w w scratch scratch name text text d
+      → {f : Fit} → f ≡ refused_by (number_of x) → d ≡ record { fit = f; lines = None } → DeterminesStored b centers rec a i w w scratch scratch name text text d
   bytes_refused rec a i z g e =
       let t = told z in
       record {
@@ -169,7 +168,7 @@ module _ {b counts counts' : List ℕ} {times times' : List ℤ} {freqs freqs' :
       }
 
 pub bytes_uncentred : {b : List ℕ} {centers : List Float} {w : Outputs} {scratch : List Float} {name text : List ℕ} {d : Determination} {f : Fit} (rec : Vec3) (a i : Float) → (leb 4 (length b) && eqb (passes_in b) (length centers)) ≡ false
-    → f ≡ refused_by 5 → d ≡ record { fit = f; lines = no_lines f.refusal } → DeterminesStored b centers rec a i w w scratch scratch name text text d
+    → f ≡ refused_by 5 → d ≡ record { fit = f; lines = None } → DeterminesStored b centers rec a i w w scratch scratch name text text d
 bytes_uncentred {b} {centers} rec a i h g e =
     let five = uncentred b centers h in
     record {

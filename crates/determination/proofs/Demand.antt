@@ -51,9 +51,10 @@ use Rattle.fit.proofs.Laws.{length_biases}
 use Rattle.tle.specs.Lines.{catalog_of}
 use Rattle.tle.specs.Answer as tle
 use Rattle.tle.specs.Answer.{Formats}
-use Rattle.tle.specs.declared.Catalog.{Catalog}
+use Rattle.std.specs.Prelude.{None, Ok}
+use Rattle.refusal.specs.Refusals.{written}
 use Rattle.tle.proofs.Answers.{catalog_length}
-use Rattle.tle.proofs.Printed.{format_printed}
+use Rattle.tle.proofs.Printed.{none_of, format_printed}
 use Rattle.determination.specs.Demand.{sum_in, sum_again, any_below, returned_set, Accepted, Demand}
 use Rattle.determination.proofs.Sets.{sum_same, returned_agrees, over_at}
 
@@ -199,12 +200,12 @@ module _ (x : Arguments) (w w' : Outputs) (scratch scratch' : List Float) (r : F
   pub accepted : Accepted x w w' r
   accepted = let p = passed x (output_room w scratch) none_refused in rw (is_found, is_filled) (found x w p (book_tried x p.low))
 
-  module _ (name text text' : List ℕ) (c : Catalog) (g : Formats name r.orbit text text' c) (printed : c.refusal ≡ 0) where
-    lines_accepted : tle.lines_refusal name r.orbit (length text) ≡ 0
-    lines_accepted = sym g.refusal ∙ printed
+  module _ (name text text' : List ℕ) (n : ℕ) (g : Formats name r.orbit text text' (Ok n)) where
+    lines_accepted : tle.lines_refusal name r.orbit (length text) ≡ None
+    lines_accepted = none_of _ _ n g.answer
 
     text_is : text' ≡ catalog_of name r.orbit ++ drop (length name + 141) text
-    text_is = g.text ∙ ap (λ (k : ℕ). cond (eqb k 0) (catalog_of name r.orbit ++ drop (length name + 141) text) text) lines_accepted
+    text_is = g.text ∙ ap (λ k. written k (catalog_of name r.orbit ++ drop (length name + 141) text) text) lines_accepted
 
     -- if the lines are accepted too
     pub demand : Demand x name w w' r text'
@@ -213,5 +214,5 @@ module _ (x : Arguments) (w w' : Outputs) (scratch scratch' : List Float) (r : F
           accepted = accepted;
           lines = ap (take (length name + 141)) text_is
               ∙ take_at (catalog_of name r.orbit) (drop (length name + 141) text) (length name + 141) (catalog_length name r.orbit);
-          printed = format_printed name text text' r.orbit c g printed;
+          printed = format_printed name text text' r.orbit n g;
         }

@@ -1,34 +1,40 @@
 // Fit and element lines in one call, from arrays and from stored bytes. Both calls take any input.
 #![tactic(auto)]
 
-ghost use Rattle.std.specs.Prelude.{◌≡◌, ◌&&◌, leb, eqb, length};
+ghost use Rattle.std.specs.Prelude.{◌≡◌, ◌&&◌, None, leb, eqb, length};
 ghost use Rattle.stored.specs.Sets.{passes_in};
 ghost use Rattle.fit.specs.Answer.{arguments, outputs};
-ghost use Rattle.determination.specs.Calls.{no_lines, Determines, DeterminesStored};
+ghost use Rattle.determination.specs.Calls.{bytes_written, Determines, DeterminesStored};
 
 use fit::Fit;
 use frame::Vec3;
 use pass_set::{MAX_PASSES, MAX_SAMPLES};
-use tle::Catalog;
+use refusal::Refusal;
 
-// The fit's answer, and that of the lines: their own refusal, or the fit's with 0 bytes.
+// The fit's answer, and that of the lines, their number of bytes: none where the fit is refused.
 #[derive(Clone, Copy)]
 pub struct Determination {
     pub fit: Fit,
-    pub lines: Catalog,
+    pub lines: Option<Result<usize, Refusal>>,
+}
+
+impl Determination {
+    // How many bytes of the text were written.
+    pub fn bytes_written(self) -> usize
+        ensures { result ≡ bytes_written self.lines }
+    {
+        match self.lines {
+            Some(Ok(length)) => length,
+            _ => 0,
+        }
+    }
 }
 
 // A refused fit, without lines.
 fn unprinted(fit: Fit) -> Determination
-    ensures { result ≡ record { fit = fit; lines = no_lines fit.refusal } }
+    ensures { result ≡ record { fit = fit; lines = None } }
 {
-    Determination {
-        fit,
-        lines: Catalog {
-            refusal: fit.refusal,
-            length: 0,
-        },
-    }
+    Determination { fit, lines: None }
 }
 
 // Fits an orbit to the passes, as `fit_orbit_doppler` does, and writes its element lines under this name to the first bytes of
@@ -62,9 +68,11 @@ pub fn fit_and_format(
     if fit.refusal != 0 {
         return unprinted(fit);
     }
-    let orbit = fit.orbit;
-    let lines = tle::format_tle_catalog(name, orbit, text);
-    Determination { fit, lines }
+    let lines = tle::format_tle_catalog(name, fit.orbit, text);
+    Determination {
+        fit,
+        lines: Some(lines),
+    }
 }
 
 // Whether the bytes begin with this number of passes.

@@ -7,11 +7,11 @@ use native.Mathlib.Nat.{mod-eq_of_lt}
 use native.Mathlib.Omega.{arith}
 use lib.Ieee.Bits.{is_true}
 use borrow.Author.Tests.{eq-eqb}
+use Rattle.std.specs.Prelude.{Ok}
 use Rattle.tle.specs.Answer.{Formats}
 use Rattle.tle.specs.Elements.{whole_turn, line_epoch}
 use Rattle.tle.specs.Lines.{line1, line2}
 use Rattle.tle.specs.Printed.{matches_line, number_in, Checked, Printed}
-use Rattle.tle.specs.declared.Catalog.{Catalog}
 use Rattle.tle.proofs.Printed.{Digits, digits, printed, format_lines, format_printed}
 use Rattle.solution.specs.declared.SolvedOrbit.{SolvedOrbit}
 use Rattle.element_lines.specs.Columns.{readable1, readable2}
@@ -54,15 +54,15 @@ unfolding read_element_lines_of
 reads_back o l1 l2 p d = rw (printed_taken o l1 l2 p) (digits_back o l1 l2 p d)
 
 -- ---- the theorems: of the two lines in the text that an accepted call leaves
-module _ (name out out' : List ℕ) (o : SolvedOrbit) (r : Catalog) (f : Formats name o out out' r) (z : r.refusal ≡ 0) where
+module _ (name out out' : List ℕ) (o : SolvedOrbit) (n : ℕ) (f : Formats name o out out' (Ok n)) where
   pub read_back : read_element_lines_of (first_in name out') (second_in name out') ≡ printed_elements o
   read_back =
-      let l = format_lines name out out' o r f z in
+      let l = format_lines name out out' o n f in
       rw (l.first_is, l.second_is)
       (reads_back o (line1 (line_epoch o.epoch)) (line2 o) (printed o l.epoch_taken l.orbit_fits_lem) (digits o l.epoch_taken l.orbit_fits_lem))
 
   written_taken : elements_refusal (first_in name out') (second_in name out') ≡ 0
-  written_taken = printed_taken o _ _ (format_printed name out out' o r f z)
+  written_taken = printed_taken o _ _ (format_printed name out out' o n f)
 
   -- with one digit replaced by another
   pub written_digit_1 : (k : ℕ) (l1 : List ℕ) → DigitChanged k (first_in name out') l1 → read_element_lines_of l1 (second_in name out') ≡ refused_elements (changed_refusal k)

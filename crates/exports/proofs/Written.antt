@@ -18,7 +18,7 @@ use Rattle.frame.specs.declared.Vec3.{Vec3}
 use Rattle.approach.specs.Answers.{FindsPcas, pca_refusal_of}
 use Rattle.exports.specs.Sums.{FindsPcasTo}
 
-numbered : {A : Type 0} (r : Option Refusal) (a : A) → status_of (answer r a) ≡ number_or_zero r
+pub numbered : {A : Type 0} (r : Option Refusal) (a : A) → status_of (answer r a) ≡ number_or_zero r
 numbered None a = refl
 numbered (Some r) a = refl
 

@@ -3,9 +3,10 @@
 ghost use Rattle.std.specs.Prelude.{◌≡◌};
 ghost use Rattle.frame.specs.Rotation.{place};
 ghost use Rattle.fit.specs.Answer.{arguments, outputs};
-ghost use Rattle.determination.specs.Calls.{Determines, DeterminesStored};
-ghost use Rattle.exports.specs.Determinations.{determination};
+ghost use Rattle.determination.specs.Calls.{bytes_written};
+ghost use Rattle.exports.specs.Determinations.{lines_status, DeterminesTo, DeterminesStoredTo};
 ghost use Rattle.exports.specs.Elements.{orbit};
+ghost use Rattle.exports.specs.Fits.{fitted};
 
 use super::fits;
 use determination::Determination;
@@ -25,12 +26,16 @@ fn put(
     lines: &mut u32,
     length: &mut usize,
 ) -> u32
-    ensures { answer ≡ determination (orbit a.new i.new raan0.new u0.new epoch.new epoch_nanos.new)
-        trials.new best.new lines.new length.new result }
+    ensures fit { answer.fit ≡ fitted (orbit a.new i.new raan0.new u0.new epoch.new epoch_nanos.new)
+        trials.new best.new result }
+    ensures lines { lines.new ≡ lines_status answer.fit.refusal answer.lines }
+    ensures length { length.new ≡ bytes_written answer.lines }
 {
-    let written = answer.lines;
-    *lines = written.refusal;
-    *length = written.length;
+    *length = 0;
+    *lines = match answer.lines {
+        Some(written) => refusal::report(written, length),
+        None => answer.fit.refusal,
+    };
     fits::put(
         answer.fit,
         a,
@@ -74,12 +79,12 @@ pub extern "C" fn wisvalom_fit_and_format(
     lines: &mut u32,
     length: &mut usize,
 ) -> u32
-    ensures { Determines (arguments counts.now times.now freqs.now centers.now (place x y z) initial_a initial_i)
+    ensures { DeterminesTo (arguments counts.now times.now freqs.now centers.now (place x y z) initial_a initial_i)
         (outputs dts.old dfs.old df1s.old df2s.old log.old)
         (outputs dts.new dfs.new df1s.new df2s.new log.new) scratch.old scratch.new
         name.now text.old text.new
-        (determination (orbit a.new i.new raan0.new u0.new epoch.new epoch_nanos.new)
-        trials.new best.new lines.new length.new result) }
+        (fitted (orbit a.new i.new raan0.new u0.new epoch.new epoch_nanos.new) trials.new best.new result)
+        lines.new length.new }
 {
     let answer = determination::fit_and_format(
         counts,
@@ -142,12 +147,12 @@ pub extern "C" fn wisvalom_fit_and_format_stored(
     lines: &mut u32,
     length: &mut usize,
 ) -> u32
-    ensures { DeterminesStored bytes.now centers.now (place x y z) initial_a initial_i
+    ensures { DeterminesStoredTo bytes.now centers.now (place x y z) initial_a initial_i
         (outputs dts.old dfs.old df1s.old df2s.old log.old)
         (outputs dts.new dfs.new df1s.new df2s.new log.new) scratch.old scratch.new
         name.now text.old text.new
-        (determination (orbit a.new i.new raan0.new u0.new epoch.new epoch_nanos.new)
-        trials.new best.new lines.new length.new result) }
+        (fitted (orbit a.new i.new raan0.new u0.new epoch.new epoch_nanos.new) trials.new best.new result)
+        lines.new length.new }
 {
     let answer = determination::fit_and_format_stored(
         bytes,

@@ -41,7 +41,7 @@ pub extern "C" fn wisvalom_tle_checksum(line: &[u8]) -> u32
     tle::tle_checksum(line)
 }
 
-// The number of bytes goes to `length`.
+// The number of bytes goes to `length`: 0 where the lines are refused.
 #[unsafe(no_mangle)]
 pub extern "C" fn wisvalom_format_tle_catalog(
     name: &[u8],
@@ -56,6 +56,7 @@ pub extern "C" fn wisvalom_format_tle_catalog(
 ) -> u32
     ensures { FormatsTo name.now (orbit a i raan0 u0 epoch epoch_nanos) out.old out.new length.new result }
 {
+    *length = 0;
     let answer = tle::format_tle_catalog(
         name,
         SolvedOrbit {
@@ -70,6 +71,5 @@ pub extern "C" fn wisvalom_format_tle_catalog(
         },
         out,
     );
-    *length = answer.length;
-    answer.refusal
+    refusal::report(answer, length)
 }

@@ -9,6 +9,7 @@ use command::report::Biases;
 use command_words::Layout;
 use determination::Determination;
 use frame::Vec3;
+use refusal::Refusal;
 use solution::SolvedOrbit;
 use std::env::Env;
 use std::io;
@@ -17,20 +18,17 @@ use std::io::{Stderr, Stdout};
 // Which of orbit and name cannot be printed: an orbit that can be under another name is not at fault.
 fn unprintable(stderr: Stderr, orbit: SolvedOrbit) {
     let mut text = [0u8; 256];
-    let c = tle::format_tle_catalog(b"HERD-1", orbit, &mut text);
-    if c.refusal == 0 {
-        messages::name_unprintable(stderr);
-        return;
+    match tle::format_tle_catalog(b"HERD-1", orbit, &mut text) {
+        Ok(_) => messages::name_unprintable(stderr),
+        Err(_) => messages::orbit_unprintable(stderr),
     }
-    messages::orbit_unprintable(stderr);
 }
 
-fn lines_refused(stderr: Stderr, k: u32, orbit: SolvedOrbit) {
-    if k == refusal::UNPRINTABLE {
-        unprintable(stderr, orbit);
-        return;
+fn lines_refused(stderr: Stderr, refusal: Refusal, orbit: SolvedOrbit) {
+    match refusal {
+        Refusal::Unprintable => unprintable(stderr, orbit),
+        _ => messages::refusal(stderr, refusal.number()),
     }
-    messages::refusal(stderr, k);
 }
 
 // What is off in recorded frequencies is off the other way in mirrored ones.
@@ -125,9 +123,8 @@ fn report(
         return;
     }
     let orbit = f.orbit;
-    let lines = d.lines;
-    if lines.refusal != 0 {
-        lines_refused(stderr, lines.refusal, orbit);
+    if let Some(Err(refusal)) = d.lines {
+        lines_refused(stderr, refusal, orbit);
         return;
     }
     let rms = report::rms(
@@ -193,9 +190,7 @@ fn solve(
         name,
         &mut text,
     );
-    let lines = d.lines;
-    let n = lines.length;
-    let written = stdout.write_all(&text[..n]);
+    let written = stdout.write_all(&text[..d.bytes_written()]);
     report(
         rt,
         stderr,

@@ -10,6 +10,9 @@ use lib.IntN.{ℤ}
 use lib.ListN.{length, drop, length-append}
 use lib.Seq.{take_at}
 use borrow.Author.Tests.{ne_eqb}
+use Rattle.std.specs.Prelude.{Option, Some, None, Result}
+use Rattle.refusal.specs.Refusals.{answer, written}
+use Rattle.refusal.specs.declared.Refusal.{Refusal}
 use Rattle.float.specs.Ops.{bits}
 use Rattle.frame.specs.declared.Vec3.{Vec3}
 use Rattle.solution.specs.declared.SolvedOrbit.{SolvedOrbit}
@@ -17,43 +20,39 @@ use Rattle.received.specs.Mirror.{mirrored_all}
 use Rattle.ordering.specs.Order.{PassSet, pass_set, order_of, in_time}
 use Rattle.fit.specs.Answer.{Arguments, arguments, Outputs, output_room}
 use Rattle.tle.specs.Lines.{catalog_of}
-use Rattle.tle.specs.Answer.{lines_refusal, Formats}
-use Rattle.tle.specs.declared.Catalog.{Catalog}
+use Rattle.tle.specs.Answer.{lines_refusal}
 use Rattle.tle.proofs.Answers.{catalog_length}
-use Rattle.determination.specs.Calls.{Determines}
+use Rattle.determination.specs.Calls.{Formatted, bytes_written, Determines}
 use Rattle.determination.specs.declared.Determination.{Determination}
 use Rattle.outcome.specs.Output.{initial_a_bits, heard, fitted_set, given, fit_of, text_of, output_of, Writes, Comes}
 
 nothing : {n : ℕ} {l : List ℕ} → n ≡ 0 → Writes n l []
 nothing e = rw e (record { room = zero-le; is = refl })
 
-module _ (name : List ℕ) (o : SolvedOrbit) (out : List ℕ) {out' : List ℕ} {r : Catalog} (h : Formats name o out out' r) where
-  by_number : (k : ℕ) → lines_refusal name o (length out) ≡ k → Writes r.length out' (cond (eqb k 0) (catalog_of name o) [])
-  by_number zero e =
-      let n : r.length ≡ length name + 141 = rw e at h.written in
-      let t : out' ≡ catalog_of name o ++ drop (length name + 141) out = rw e at h.text in
-      rw (n, t)
+module _ (name : List ℕ) (o : SolvedOrbit) (out : List ℕ) {out' : List ℕ} where
+  by_answer : (k : Option Refusal) (r : Result ℕ Refusal) → r ≡ answer k (length name + 141) → out' ≡ written k (catalog_of name o ++ drop (length name + 141) out) out
+      → Writes (bytes_written (Some r)) out' (written k (catalog_of name o) [])
+  by_answer None r e t =
+      rw (e, t)
       (record {
         room = rw length-append (omega (arith, catalog_length name o));
         is = take_at (catalog_of name o) (drop (length name + 141) out) (length name + 141) (catalog_length name o);
       })
-  by_number (suc k) e =
-      let z : eqb (suc k) 0 ≡ false = ne_eqb (suc k) 0 (λ (q : suc k ≡ 0). omega arith) in
-      let n : r.length ≡ cond (eqb (suc k) 0) (length name + 141) 0 = rw e at h.written in
-      rw z (nothing (rw z at n))
+  by_answer (Some k) r e t = rw e (nothing refl)
 
-  lines_text : Writes r.length out' (text_of name o (length out))
+  lines_text : (l : Option (Result ℕ Refusal)) → Formatted name o out out' l → Writes (bytes_written l) out' (text_of name o (length out))
   unfolding text_of
-  lines_text = by_number (lines_refusal name o (length out)) refl
+  lines_text None h = absurd h
+  lines_text (Some r) h = by_answer (lines_refusal name o (length out)) r h.answer h.text
 
 module _ {x : Arguments} {w w' : Outputs} {scratch scratch' : List Float} (name text : List ℕ) {text' : List ℕ} {d : Determination} (h : Determines x w w' scratch scratch' name text text' d) where
-  by_refusal : (k : ℕ) → d.fit.refusal ≡ k → Writes d.lines.length text' (cond (eqb k 0) (text_of name d.fit.orbit (length text)) [])
-  by_refusal zero e = lines_text name d.fit.orbit text (h.formats e)
+  by_refusal : (k : ℕ) → d.fit.refusal ≡ k → Writes (bytes_written d.lines) text' (cond (eqb k 0) (text_of name d.fit.orbit (length text)) [])
+  by_refusal zero e = lines_text name d.fit.orbit text d.lines (h.formats e)
   by_refusal (suc k) e =
       let z : eqb (suc k) 0 ≡ false = ne_eqb (suc k) 0 (λ (q : suc k ≡ 0). omega arith) in
-      rw z (nothing (ap (λ (c : Catalog). c.length) (h.unwritten (omega (arith, e))).answered))
+      rw z (nothing (ap bytes_written (h.unwritten (omega (arith, e))).none))
 
-  pub text_writes : Writes d.lines.length text' (output_of name x (output_room w scratch) (length text))
+  pub text_writes : Writes (bytes_written d.lines) text' (output_of name x (output_room w scratch) (length text))
   unfolding output_of fit_of
   text_writes = rw (← h.fits.answered) (by_refusal d.fit.refusal refl)
 

@@ -7,12 +7,13 @@ use Rattle.frame.specs.declared.Vec3.{Vec3}
 use Rattle.solution.specs.declared.SolvedOrbit.{SolvedOrbit}
 use Rattle.received.specs.Mirror.{mirrored_all}
 use Rattle.ordering.specs.Order.{PassSet, order_of, in_time}
+use Rattle.refusal.specs.Refusals.{written}
 use Rattle.arguments.specs.Refusals.{Room}
 use Rattle.fit.specs.Answer.{Arguments, arguments, fit_refusal, book_of, fit_answer, Outputs, output_room}
 use Rattle.fit.specs.declared.Fit.{Fit}
 use Rattle.tle.specs.Lines.{catalog_of}
 use Rattle.tle.specs.Answer as lines
-use Rattle.determination.specs.Calls.{Determines}
+use Rattle.determination.specs.Calls.{bytes_written, Determines}
 use Rattle.determination.specs.declared.Determination.{Determination}
 
 -- ---- what is fitted
@@ -51,7 +52,7 @@ fit_of x room = fit_answer (fit_refusal x room) (book_of x) x.times
 
 -- an orbit's lines, or nothing where they are refused; `size` bytes are lent for them
 unfoldable pub text_of : List ℕ → SolvedOrbit → ℕ → List ℕ
-text_of name o size = cond (eqb (lines.lines_refusal name o size) 0) (catalog_of name o) []
+text_of name o size = written (lines.lines_refusal name o size) (catalog_of name o) []
 
 -- standard output: the lines where fit and lines are accepted, nothing otherwise
 unfoldable pub output_of : List ℕ → Arguments → Room → ℕ → List ℕ
@@ -69,4 +70,4 @@ pub record Comes (received : Bool) (s s' : PassSet) (freqs' : List Float) (order
   pub ordered : order ≡ order_of s.counts s.times
   pub set : s' ≡ fitted_set received s
   pub determined : Determines (given (fitted_set received s) rec i) w w' scratch scratch' name text text' d
-  pub writes : Writes d.lines.length text' (output_of name (given (fitted_set received s) rec i) (output_room w scratch) (length text))
+  pub writes : Writes (bytes_written d.lines) text' (output_of name (given (fitted_set received s) rec i) (output_room w scratch) (length text))

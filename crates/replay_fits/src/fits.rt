@@ -3,7 +3,7 @@ use crate::rooms;
 use determination::Determination;
 use fit::Fit;
 use moment::Moment;
-use tle::Catalog;
+use refusal::Refusal;
 
 // What every place of a lent output holds before the call.
 const UNTOUCHED: f64 = 7.0;
@@ -61,7 +61,7 @@ fn same_outputs(
     df1s: &[f64],
     df2s: &[f64],
     log: &[f64],
-    lines: Catalog,
+    lines: Result<usize, Refusal>,
     text: &[u8],
 ) -> bool {
     if !same_list(fields, log) {
@@ -136,6 +136,9 @@ fn fits(bytes: &[u8], fields: &[u8], answer: &[u8]) -> bool {
             && untouched(&df2s, 0)
             && untouched(&log, 0);
     }
+    let Some(lines) = d.lines else {
+        return false;
+    };
     let after = answer_lines::from(answer, 1);
     if !same_fit(after, f) {
         return false;
@@ -147,7 +150,7 @@ fn fits(bytes: &[u8], fields: &[u8], answer: &[u8]) -> bool {
         &df1s,
         &df2s,
         &log,
-        d.lines,
+        lines,
         &text,
     )
 }

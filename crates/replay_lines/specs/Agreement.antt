@@ -1,10 +1,11 @@
 -- When element lines agree with those that the original printed, by document 02 [3]. Definitions only.
-use Rattle.std.specs.Prelude.{ℕ, zero, suc, ◌+◌, ◌-◌, Bool, true, ◌&&◌, ◌||◌, cond, List, [], ◌∷◌, eqb, leb, length, get_or, take, drop}
+use Rattle.std.specs.Prelude.{ℕ, zero, suc, ◌+◌, ◌-◌, Bool, ◌&&◌, ◌||◌, cond, List, [], ◌∷◌, eqb, leb, length, get_or, take, drop, Result, Ok, Err}
 use Rattle.text.specs.Text.{bytes, code}
 use Rattle.answer_lines.specs.Lines.{begins_with, fields_from, field_at, packed_byte}
+use Rattle.refusal.specs.Refusals.{number_of}
+use Rattle.refusal.specs.declared.Refusal.{Refusal}
 use Rattle.tle.specs.Lines.{checksum_of}
 use Rattle.tle.specs.Printed.{columns_of}
-use Rattle.tle.specs.declared.Catalog.{Catalog}
 
 -- ---- line 2 with its line feed: s as the original printed it, w as it is written; columns are counted from 1
 
@@ -57,5 +58,6 @@ unfoldable pub stored_agrees : List ℕ → ℕ → List ℕ → Bool
 stored_agrees fields n text = eqb (field_at fields 0) n && (leb n 165 && (leb n (length text) && text_agrees (packed_bytes (fields_from 1 fields) 0 n) (take n text)))
 
 -- the refusal is the same, and where it is 0 the text agrees
-unfoldable pub lines_agree : List ℕ → Catalog → List ℕ → Bool
-lines_agree fields c text = eqb (field_at fields 0) c.refusal && cond (eqb c.refusal 0) (stored_agrees (fields_from 1 fields) c.length text) true
+unfoldable pub lines_agree : List ℕ → Result ℕ Refusal → List ℕ → Bool
+lines_agree fields (Ok n) text = eqb (field_at fields 0) 0 && stored_agrees (fields_from 1 fields) n text
+lines_agree fields (Err r) text = eqb (field_at fields 0) (number_of r)

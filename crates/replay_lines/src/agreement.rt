@@ -5,7 +5,7 @@ ghost use Rattle.std.specs.Prelude.{◌≡◌, ◌≤◌, ◌<◌, length, take}
 ghost use Rattle.tle.specs.Printed.{columns_of};
 ghost use Rattle.replay_lines.specs.Agreement.{same_columns, is_turn, same_angle, own_sum, same_sum, same_angles, same_rest, line2_agrees, text_agrees, packed_bytes, stored_agrees, lines_agree};
 
-use tle::Catalog;
+use refusal::Refusal;
 
 // Columns a to b, counted from 1.
 fn columns(a: usize, b: usize, line: &[u8]) -> &[u8]
@@ -151,14 +151,15 @@ fn same_stored(fields: &[u8], n: usize, text: &[u8]) -> bool
 }
 
 // Whether the fields are the lines' refusal, or 0 and a text with which theirs agrees.
-pub fn same_lines(fields: &[u8], lines: Catalog, text: &[u8]) -> bool
+#[tactic(auto, unfolding(crate::specs::Agreement::lines_agree))]
+pub fn same_lines(fields: &[u8], lines: Result<usize, Refusal>, text: &[u8]) -> bool
     ensures { result ≡ lines_agree fields.now lines text.now }
 {
-    if !answer_lines::refused(fields, lines.refusal) {
-        return false;
+    match lines {
+        Ok(length) => {
+            answer_lines::refused(fields, 0)
+                && same_stored(answer_lines::from(fields, 1), length, text)
+        }
+        Err(refusal) => answer_lines::refused(fields, refusal.number()),
     }
-    if lines.refusal != 0 {
-        return true;
-    }
-    same_stored(answer_lines::from(fields, 1), lines.length, text)
 }

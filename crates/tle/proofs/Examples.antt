@@ -7,6 +7,8 @@ use Prim.Native.String.{String}
 use lib.Dec.{lit<, lit≤}
 use lib.IntN.{pos, negsuc}
 use lib.Ieee.{Float, nan, add, mul, div, rem, lt, round, of_int, of_bits}
+use Rattle.std.specs.Prelude.{Some, None}
+use Rattle.refusal.specs.declared.Refusal.TheVariants.{MomentRange, Unprintable, ShortMemory}
 use Rattle.text.specs.Text.{bytes, code}
 use Rattle.float.specs.Ops.{◌⊕◌, bits, rem_euclid_of, degrees_of, degrees_per_radian, of_nat}
 use Rattle.float.specs.Trig.{full, pi}
@@ -124,7 +126,7 @@ refusals :
     ∷ lines_refusal (letters 25) (record { a = example_orbit.a; i = example_orbit.i; raan0 = example_orbit.raan0; u0 = example_orbit.u0; epoch = record { seconds = pos 2745532800; nanos = 0 } }) 0
     ∷ lines_refusal [] (record { a = nan; i = example_orbit.i; raan0 = example_orbit.raan0; u0 = example_orbit.u0; epoch = epoch }) 0
     ∷ lines_refusal [] (record { a = example_orbit.a; i = example_orbit.i; raan0 = bits 0x7fac7b1f3cac7433; u0 = example_orbit.u0; epoch = epoch }) 141 ∷ []
-    ≡ 0 ∷ 0 ∷ 11 ∷ 11 ∷ 21 ∷ 4 ∷ 11 ∷ 11 ∷ []
+    ≡ None ∷ None ∷ Some Unprintable ∷ Some Unprintable ∷ Some ShortMemory ∷ Some MomentRange ∷ Some Unprintable ∷ Some Unprintable ∷ []
 unfolding lines_refusal orbit_fits radius_fits inclination_fits angle_fits least_radius most_radius pi name_fits visible in_range seconds_of degrees_of degrees_per_radian mul lt round of_bits
 refusals = refl
 

@@ -1,4 +1,5 @@
 pub mod Dates
+pub mod Tests
 pub mod Texts
 pub mod Columns
 pub mod Values

@@ -19,13 +19,13 @@ use Rattle.moment.specs.Time.{seconds_of}
 use Rattle.moment.proofs.Ranges.{at_is}
 use Rattle.tle.specs.Elements.{printed_degrees, within_turn, mean_motion_of, line_epoch}
 use Rattle.tle.specs.Lines.{start1, rest1, start2, middle2, end2, body1, body2, checksum_of, closed, line1, line2, catalog_of}
-use Rattle.refusal.specs.Order as order
-use Rattle.refusal.specs.Order.{◌if◌}
-use Rattle.refusal.specs.Numbers.{moment_range, unprintable, short_memory}
+use Rattle.std.specs.Prelude.{Option, Some, None, Ok}
+use Rattle.refusal.specs.Refusals.{◌when◌, first_of, answer, written}
+use Rattle.refusal.specs.declared.Refusal.{Refusal}
+use Rattle.refusal.specs.declared.Refusal.TheVariants.{MomentRange, Unprintable, ShortMemory}
 use Rattle.tle.specs.Answer.{orbit_fits, name_fits, lines_refusal, Formats}
 use Rattle.tle.specs.Printed.{Class, only, digit, leading, later, is_blank, admits, matches_behind, matches_line, exactly, columns1, columns2, columns_of, read_digits, number_in, HalfUnit, Checked, Printed}
 use Rattle.solution.specs.declared.SolvedOrbit.{SolvedOrbit}
-use Rattle.tle.specs.declared.Catalog.{Catalog}
 use Rattle.tle.specs.declared.elements.Epoch.{Epoch}
 use Rattle.tle.proofs.Columns.{checksum_lt}
 use Rattle.tle.proofs.Ranges.{UpTo}
@@ -294,14 +294,19 @@ digits o h g =
     }
 
 -- ---- the same of the bytes that a call leaves in `out`
-passed : (a b c d : Bool) → order.first ((moment_range if not a) ∷ (unprintable if not (b && c)) ∷ (short_memory if d) ∷ []) ≡ 0 → (a ≡ true) × T b
+passed : (a b c d : Bool) → first_of ((MomentRange when not a) ∷ (Unprintable when not (b && c)) ∷ (ShortMemory when d) ∷ []) ≡ None → (a ≡ true) × T b
 passed true true c d e = (refl, tt)
-passed true false c d e = absurd (omega arith)
-passed false b c d e = absurd (omega arith)
+passed true false c d e = absurd cc
+passed false b c d e = absurd cc
 
-accepted : (name : List ℕ) (o : SolvedOrbit) (room : ℕ) → lines_refusal name o room ≡ 0 → (taken o.epoch ≡ true) × T (orbit_fits o)
+accepted : (name : List ℕ) (o : SolvedOrbit) (room : ℕ) → lines_refusal name o room ≡ None → (taken o.epoch ≡ true) × T (orbit_fits o)
 unfolding lines_refusal
 accepted name o room e = passed (taken o.epoch) (orbit_fits o) (name_fits name) (ltb room (length name + 141)) e
+
+-- an answer was not refused
+pub none_of : (r : Option Refusal) (k n : ℕ) → Ok n ≡ answer r k → r ≡ None
+none_of None k n e = refl
+none_of (Some r) k n e = absurd cc
 
 catalog_is : (name rest : List ℕ) (o : SolvedOrbit) → catalog_of name o ++ rest ≡ name ++ (10 ∷ (line1 (line_epoch o.epoch) ++ (10 ∷ (line2 o ++ (10 ∷ rest)))))
 unfolding catalog_of
@@ -321,16 +326,15 @@ pub record WrittenLines (o : SolvedOrbit) (l1 l2 : List ℕ) : Type 0 where
   pub epoch_taken : taken o.epoch ≡ true
   pub orbit_fits_lem : T (orbit_fits o)
 
-pub format_lines : (name out out' : List ℕ) (o : SolvedOrbit) (r : Catalog) → Formats name o out out' r → r.refusal ≡ 0
-    → WrittenLines o (take 69 (drop (length name + 1) out')) (take 69 (drop (length name + 71) out'))
-format_lines name out out' o r f z =
-    let e : lines_refusal name o (length out) ≡ 0 = sym f.refusal ∙ z in
+pub format_lines : (name out out' : List ℕ) (o : SolvedOrbit) (n : ℕ) → Formats name o out out' (Ok n) → WrittenLines o (take 69 (drop (length name + 1) out')) (take 69 (drop (length name + 71) out'))
+format_lines name out out' o n f =
+    let e = none_of (lines_refusal name o (length out)) (length name + 141) n f.answer in
     let a = accepted name o (length out) e in
     let rest = drop (length name + 141) out in
     let l1 = line1 (line_epoch o.epoch) in
     let s1 = line1_length (line_epoch o.epoch) in
     let t : out' ≡ name ++ (10 ∷ (l1 ++ (10 ∷ (line2 o ++ (10 ∷ rest))))) =
-    f.text ∙ ap (λ (n : ℕ). cond (eqb n 0) (catalog_of name o ++ rest) out) e ∙ catalog_is name rest o in
+    f.text ∙ ap (λ (x : Option Refusal). written x (catalog_of name o ++ rest) out) e ∙ catalog_is name rest o in
     record {
       first_is = ap (λ (x : List ℕ). take 69 (drop (length name + 1) x)) t ∙ first_at name l1 (10 ∷ (line2 o ++ (10 ∷ rest))) s1;
       second_is = ap (λ (x : List ℕ). take 69 (drop (length name + 71) x)) t ∙ second_at name l1 (line2 o) (10 ∷ rest) s1 (line2_length o);
@@ -338,8 +342,7 @@ format_lines name out out' o r f z =
       orbit_fits_lem = a.1;
     }
 
-pub format_printed : (name out out' : List ℕ) (o : SolvedOrbit) (r : Catalog) → Formats name o out out' r → r.refusal ≡ 0
-    → Printed o (take 69 (drop (length name + 1) out')) (take 69 (drop (length name + 71) out'))
-format_printed name out out' o r f z =
-    let l = format_lines name out out' o r f z in
+pub format_printed : (name out out' : List ℕ) (o : SolvedOrbit) (n : ℕ) → Formats name o out out' (Ok n) → Printed o (take 69 (drop (length name + 1) out')) (take 69 (drop (length name + 71) out'))
+format_printed name out out' o n f =
+    let l = format_lines name out out' o n f in
     rw (l.first_is, l.second_is) (printed o l.epoch_taken l.orbit_fits_lem)

@@ -1,15 +1,15 @@
 -- What `format_tle_catalog` answers and writes, for every input.
-use Rattle.std.specs.Prelude.{◌≡◌, Bool, true, not, ◌&&◌, ◌||◌, cond, List, [], ◌∷◌, ◌++◌, ℕ, ◌+◌, leb, ltb, eqb, length, drop, Float}
+use Rattle.std.specs.Prelude.{◌≡◌, Bool, true, not, ◌&&◌, ◌||◌, List, [], ◌∷◌, ◌++◌, ℕ, ◌+◌, leb, ltb, length, drop, Float, Option, Result}
 use Rattle.std.specs.Float.Ieee.{lt}
-use Rattle.refusal.specs.Order.{◌if◌, first}
-use Rattle.refusal.specs.Numbers.{moment_range, unprintable, short_memory}
+use Rattle.refusal.specs.Refusals.{◌when◌, first_of, answer, written}
+use Rattle.refusal.specs.declared.Refusal.{Refusal}
+use Rattle.refusal.specs.declared.Refusal.TheVariants.{MomentRange, Unprintable, ShortMemory}
 use Rattle.float.specs.Ops.{bits, degrees_of}
 use Rattle.float.specs.Trig.{pi, is_finite}
 use Rattle.moment.specs.Range.{taken}
 use Rattle.tle.specs.Lines.{catalog_of}
 use Rattle.solution.specs.Range.{least_radius, most_radius}
 use Rattle.solution.specs.declared.SolvedOrbit.{SolvedOrbit}
-use Rattle.tle.specs.declared.Catalog.{Catalog}
 
 -- ---- orbit and name: refusal 11
 
@@ -44,15 +44,15 @@ name_fits l = leb (length l) 24 && visible l
 -- ---- the call
 
 -- with so many bytes lent for the text
-unfoldable pub lines_refusal : List ℕ → SolvedOrbit → ℕ → ℕ
-lines_refusal name o room = first (
-    (moment_range if not (taken o.epoch))
-    ∷ (unprintable if not (orbit_fits o && name_fits name))
-    ∷ (short_memory if ltb room (length name + 141))
+unfoldable pub lines_refusal : List ℕ → SolvedOrbit → ℕ → Option Refusal
+lines_refusal name o room =
+    first_of (
+    (MomentRange when not (taken o.epoch))
+    ∷ (Unprintable when not (orbit_fits o && name_fits name))
+    ∷ (ShortMemory when ltb room (length name + 141))
     ∷ [])
 
--- the text's bytes come first, and the places past them stay; a refusal writes nothing
-pub record Formats (name : List ℕ) (o : SolvedOrbit) (out out' : List ℕ) (r : Catalog) : Type 0 where
-  pub refusal : r.refusal ≡ lines_refusal name o (length out)
-  pub written : r.length ≡ cond (eqb (lines_refusal name o (length out)) 0) (length name + 141) 0
-  pub text : out' ≡ cond (eqb (lines_refusal name o (length out)) 0) (catalog_of name o ++ drop (length name + 141) out) out
+-- the answer is the number of the text's bytes, which come first, and the places past them stay; a refusal writes nothing
+pub record Formats (name : List ℕ) (o : SolvedOrbit) (out out' : List ℕ) (r : Result ℕ Refusal) : Type 0 where
+  pub answer : r ≡ answer (lines_refusal name o (length out)) (length name + 141)
+  pub text : out' ≡ written (lines_refusal name o (length out)) (catalog_of name o ++ drop (length name + 141) out) out

@@ -2,7 +2,6 @@
 // `format_tle_catalog`, which has tested angles and epoch.
 ghost use Rattle.std.specs.Prelude.{◌≡◌, T};
 ghost use Rattle.decimal.specs.Fixed.{within};
-ghost use Rattle.float.specs.Trig.{is_finite};
 ghost use Rattle.moment.specs.Range.{Within};
 ghost use Rattle.tle.specs.Elements.{printed_degrees, within_turn, mean_motion_of, epoch_fraction, epoch_at};
 ghost use Rattle.tle.specs.Answer.{from_to, angle_fits, radius_fits, inclination_fits, orbit_fits, visible_byte, name_fits};
@@ -15,6 +14,7 @@ const TURN: u64 = 3600000;
 
 const LONGEST_NAME: usize = 24;
 
+#[tactic(auto, unfolding(crate::specs::Elements::printed_degrees), using(crate::specs::Elements::full_circle_bits))]
 pub fn degrees(x: f64) -> f64
     ensures { result ≡ printed_degrees x }
 {
@@ -22,6 +22,7 @@ pub fn degrees(x: f64) -> f64
 }
 
 // 0 degrees in place of what would print 360.0000.
+#[tactic(auto, unfolding(crate::specs::Elements::within_turn))]
 pub fn within_turn(v: f64) -> f64
     requires { T (within v) }
     ensures { result ≡ within_turn v }
@@ -39,6 +40,7 @@ pub fn mean_motion(a: f64) -> f64
     roots::sqrt(orbit::MU / (a * a * a)) * 86400.0 / 6.283185307179586
 }
 
+#[tactic(auto, unfolding(crate::specs::Elements::epoch_fraction), using(crate::specs::Elements::seconds_per_hour_bits, crate::specs::Elements::seconds_per_minute_bits, crate::specs::Elements::nanos_per_second_bits, crate::specs::Elements::seconds_per_day_bits))]
 fn day_fraction(secs: u32, nanos: u32) -> f64
     ensures { result ≡ epoch_fraction secs nanos }
 {
@@ -68,85 +70,48 @@ pub fn epoch_of(t: Instant) -> Epoch
     }
 }
 
-fn finite(v: f64) -> bool
-    ensures { result ≡ is_finite v }
-{
-    if v < 1.0 / 0.0 {
-        return -1.0 / 0.0 < v;
-    }
-    false
-}
-
-fn inside_of(lo: f64, hi: f64, v: f64) -> bool
+fn from_to(lo: f64, hi: f64, v: f64) -> bool
     ensures { result ≡ from_to lo hi v }
 {
-    if v < lo {
-        return false;
-    }
-    !(hi < v)
+    !(v < lo || hi < v)
 }
 
 fn accepted_angle(x: f64) -> bool
     ensures { result ≡ angle_fits x }
 {
-    if finite(x) {
-        return finite(float::to_degrees(x));
-    }
-    false
+    x.is_finite() && float::to_degrees(x).is_finite()
 }
 
 fn accepted_radius(a: f64) -> bool
     ensures { result ≡ radius_fits a }
 {
-    if finite(a) {
-        return inside_of(solution::LEAST_A, solution::MOST_A, a);
-    }
-    false
+    a.is_finite() && from_to(solution::LEAST_A, solution::MOST_A, a)
 }
 
 fn accepted_inclination(i: f64) -> bool
     ensures { result ≡ inclination_fits i }
 {
-    if accepted_angle(i) {
-        return inside_of(0.0, float::PI, i);
-    }
-    false
+    accepted_angle(i) && from_to(0.0, float::PI, i)
 }
 
+#[tactic(auto, unfolding(crate::specs::Answer::orbit_fits))]
 pub fn accepted_orbit(o: SolvedOrbit) -> bool
     ensures { result ≡ orbit_fits o }
 {
-    if !accepted_radius(o.a) {
-        return false;
-    }
-    if !accepted_inclination(o.i) {
-        return false;
-    }
-    if !accepted_angle(o.raan0) {
-        return false;
-    }
-    accepted_angle(o.u0)
+    accepted_radius(o.a)
+        && accepted_inclination(o.i)
+        && accepted_angle(o.raan0)
+        && accepted_angle(o.u0)
 }
 
 fn visible_byte(c: u8) -> bool
     ensures { result ≡ visible_byte c }
 {
-    if c < 32 {
-        return false;
-    }
-    c <= 126
+    (32..=126).contains(&c)
 }
 
 pub fn accepted_name(name: &[u8]) -> bool
     ensures { result ≡ name_fits name.now }
 {
-    if LONGEST_NAME < name.len() {
-        return false;
-    }
-    for i in 0usize..name.len() {
-        if !visible_byte(name[i]) {
-            return false;
-        }
-    }
-    true
+    name.len() <= LONGEST_NAME && name.iter().all(|c| visible_byte(*c))
 }

@@ -4,55 +4,42 @@
 mod elements;
 mod lines;
 
-ghost use Rattle.std.specs.Prelude.{◌≡◌, [], ◌++◌, ◌∷◌, ◌+◌, ◌≤◌, min, T, length, take};
+ghost use Rattle.std.specs.Prelude.{◌≡◌, [], ◌++◌, ◌∷◌, ◌+◌, ◌≤◌, T, length, take};
 ghost use Rattle.std.proofs.lemmas.List.Edits.{sets};
 ghost use Rattle.moment.specs.Range.{Within};
 ghost use Rattle.tle.specs.Elements.{epoch_at};
-ghost use Rattle.tle.specs.Lines.{weight_of, checksum_of, line1, line2};
+ghost use Rattle.tle.specs.Lines.{weight_of, weight_sum, checksum_of, line1, line2};
 ghost use Rattle.tle.specs.Answer.{orbit_fits, Formats};
 
 use moment::Instant;
+use refusal::Refusal;
 use solution::SolvedOrbit;
-
-// A refusal's number and 0, or 0 and the number of bytes of the text.
-#[derive(Clone, Copy)]
-pub struct Catalog {
-    pub refusal: u32,
-    pub length: usize,
-}
 
 // What a byte adds to a line's checksum.
 fn weight(c: u8) -> u32
     ensures { (result ≡ weight_of c) × (result ≤ 9) }
 {
-    if c == b'-' {
-        return 1;
+    match c {
+        b'0'..=b'9' => (c - b'0') as u32,
+        b'-' => 1,
+        _ => 0,
     }
-    if c < 48 {
-        return 0;
-    }
-    if c <= 57 {
-        return (c - 48) as u32;
-    }
-    0
 }
 
-fn at_most_68(n: usize) -> usize
-    ensures { result ≡ min n 68 }
+// Of columns that are no more than a line's 68.
+#[tactic(auto, using(crate::proofs::Tests::weights))]
+fn sum_of(columns: &[u8]) -> u32
+    requires { length columns.now ≤ 68 }
+    ensures { result ≡ weight_sum columns.now }
 {
-    if n < 68 { n } else { 68 }
+    columns.iter().map(|c| weight(*c)).sum()
 }
 
 // Of a line's first 68 columns, or all if it has fewer: the digits, and one for each minus, modulo 10.
 pub fn tle_checksum(line: &[u8]) -> u32
     ensures { result ≡ checksum_of (take 68 line.now) }
 {
-    let end = at_most_68(line.len());
-    let mut sum: u32 = 0;
-    for i in 0usize..end {
-        sum += weight(line[i]);
-    }
-    sum % 10
+    sum_of(&line[..line.len().min(68)]) % 10
 }
 
 fn first_line(t: Instant) -> [u8; 69]
@@ -84,41 +71,18 @@ fn join(name: &[u8], line1: &[u8; 69], line2: &[u8; 69], out: &mut [u8])
     lines::put_line(line2, out, n + 71);
 }
 
-// The name line and the two element lines, each with a line feed, into the first bytes of `out`.
-pub fn format_tle_catalog(name: &[u8], orbit: SolvedOrbit, out: &mut [u8]) -> Catalog
+// The name line and the two element lines, each with a line feed, into the first bytes of `out`, and how many bytes they are.
+pub fn format_tle_catalog(name: &[u8], orbit: SolvedOrbit, out: &mut [u8]) -> Result<usize, Refusal>
     ensures { Formats name.now orbit out.old out.new result }
 {
-    let epoch = orbit.epoch;
-    let Ok(t) = Instant::try_from(epoch) else {
-        return Catalog {
-            refusal: refusal::MOMENT_RANGE,
-            length: 0,
-        };
-    };
-    if !elements::accepted_orbit(orbit) {
-        return Catalog {
-            refusal: refusal::UNPRINTABLE,
-            length: 0,
-        };
-    }
-    if !elements::accepted_name(name) {
-        return Catalog {
-            refusal: refusal::UNPRINTABLE,
-            length: 0,
-        };
+    let epoch = Instant::try_from(orbit.epoch)?;
+    if !elements::accepted_orbit(orbit) || !elements::accepted_name(name) {
+        return Err(Refusal::Unprintable);
     }
     let length = name.len() + 141;
     if out.len() < length {
-        return Catalog {
-            refusal: refusal::SHORT_MEMORY,
-            length: 0,
-        };
+        return Err(Refusal::ShortMemory);
     }
-    let line1 = first_line(t);
-    let line2 = second_line(orbit);
-    join(name, &line1, &line2, out);
-    Catalog {
-        refusal: 0,
-        length: length,
-    }
+    join(name, &first_line(epoch), &second_line(orbit), out);
+    Ok(length)
 }

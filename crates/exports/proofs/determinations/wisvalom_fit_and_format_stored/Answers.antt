@@ -1,7 +1,7 @@
 -- `wisvalom_fit_and_format_stored` meets its contract. Assumes nothing.
-use Rattle.exports.proofs.Told.{stored_told}
+use Rattle.exports.proofs.Told.{stored_to}
 use Rattle.exports.proofs.determinations.wisvalom_fit_and_format_stored.Goals as goal
 
 pub returns : goal.returns
 returns c =
-    stored_told _ _ _ _ _ _ _ _ _ _ _ _ _ _ c.put.ensures c.fit_and_format_stored-answer.ensures
+    stored_to c.put.ensures.fit c.put.ensures.lines c.put.ensures.length c.fit_and_format_stored-answer.ensures

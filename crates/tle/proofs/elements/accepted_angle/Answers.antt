@@ -1,10 +1,11 @@
 use Rattle.tle.specs.Answer.{angle_fits}
+use Rattle.tle.proofs.Tests.{finite}
 use Rattle.tle.proofs.elements.accepted_angle.Goals as goal
 
-pub returns-then-finite : goal.returns-then-finite
+pub returns-then-is_finite : goal.returns-then-is_finite
 unfolding angle_fits
-returns-then-finite c = simp (c.finite-then-finite.ensures, c.to_degrees.ensures, ← c.finite.ensures, c.if-finite.true)
+returns-then-is_finite c = simp (← finite, ← c.is_finite.ensures.value, c.if-is_finite.true, c.is_finite-then-is_finite.ensures.value, c.to_degrees.ensures)
 
-pub returns : goal.returns
+pub returns-else-is_finite : goal.returns-else-is_finite
 unfolding angle_fits
-returns c = simp (← c.finite.ensures, c.if-finite.false)
+returns-else-is_finite c = simp (← finite, ← c.is_finite.ensures.value, c.if-is_finite.false)

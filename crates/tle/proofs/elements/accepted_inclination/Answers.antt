@@ -4,8 +4,8 @@ use Rattle.tle.proofs.elements.accepted_inclination.Goals as goal
 
 pub returns-then-accepted_angle : goal.returns-then-accepted_angle
 unfolding inclination_fits
-returns-then-accepted_angle c = simp (c.inside_of.ensures, pi_bits, ← c.accepted_angle.ensures, c.if-accepted_angle.true)
+returns-then-accepted_angle c = simp (c.from_to.ensures, pi_bits, ← c.accepted_angle.ensures, c.if-accepted_angle.true)
 
-pub returns : goal.returns
+pub returns-else-accepted_angle : goal.returns-else-accepted_angle
 unfolding inclination_fits
-returns c = simp (← c.accepted_angle.ensures, c.if-accepted_angle.false)
+returns-else-accepted_angle c = simp (← c.accepted_angle.ensures, c.if-accepted_angle.false)
