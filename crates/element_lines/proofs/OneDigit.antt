@@ -1,4 +1,4 @@
--- An accepted pair of lines with one digit replaced by another is refused: by 14 where it is a line's number, else by 15. Assumes nothing.
+-- An accepted pair of lines with one digit replaced by another is refused: for its columns where it is a line's number, else for its checksum. Assumes nothing.
 use mathlib.Core.Path.{◌≡◌, refl, sym, ap, ◌∙◌, subst}
 use mathlib.Core.Logic.{inl, inr}
 use mathlib.Core.Bool.{Bool, true, false, not, ◌&&◌, ◌||◌}
@@ -14,8 +14,9 @@ use borrow.Author.Tests.{not-true, ne_eqb, eqb-true, le-leb, lt-leb}
 use Rattle.laws.proofs.Lists.{here}
 use Rattle.laws.proofs.Numbers.{lt_or_ge}
 use Rattle.laws.proofs.Tests.{and_true}
-use Rattle.refusal.specs.Numbers.{line_columns, line_checksum, eccentric}
-use Rattle.refusal.specs.Order.{first, ◌if◌}
+use Rattle.std.specs.Prelude.{Some, None, Err}
+use Rattle.refusal.specs.Refusals.{first_of, ◌when◌}
+use Rattle.refusal.specs.declared.Refusal.TheVariants.{LineColumns, LineChecksum, Eccentric}
 use Rattle.decimal.specs.Read.{is_digit}
 use Rattle.decimal.proofs.Grammar.{digit_range}
 use Rattle.tle.specs.Lines.{weight_of, weight_sum, checksum_of}
@@ -23,7 +24,7 @@ use Rattle.tle.specs.Printed.{Class, only, digit, leading, later, letter, letter
 use Rattle.tle.proofs.Printed.{leading_digital, later_digital}
 use Rattle.tle.proofs.Values.{Digital}
 use Rattle.element_lines.specs.Columns.{readable1, readable2}
-use Rattle.element_lines.specs.Reading.{summed, circular, elements_refusal, refused_elements, read_element_lines_of}
+use Rattle.element_lines.specs.Reading.{summed, circular, elements_refusal, read_element_lines_of}
 use Rattle.element_lines.specs.Written.{DigitChanged, changed_refusal}
 use Rattle.element_lines.proofs.Matching.{length_1, length_2}
 
@@ -203,12 +204,12 @@ record Accepted (l1 l2 : List ℕ) : Type 0 where
   summed_1 : summed l1 ≡ true
   summed_2 : summed l2 ≡ true
 
-passed : (m s e : Bool) → first ((line_columns if not m) ∷ (line_checksum if not s) ∷ (eccentric if not e) ∷ []) ≡ 0 → (m ≡ true) × (s ≡ true)
+passed : (m s e : Bool) → first_of ((LineColumns when not m) ∷ (LineChecksum when not s) ∷ (Eccentric when not e) ∷ []) ≡ None → (m ≡ true) × (s ≡ true)
 passed true true e z = (refl, refl)
-passed true false e z = absurd (omega arith)
-passed false s e z = absurd (omega arith)
+passed true false e z = absurd cc
+passed false s e z = absurd cc
 
-accepted : (l1 l2 : List ℕ) → elements_refusal l1 l2 ≡ 0 → Accepted l1 l2
+accepted : (l1 l2 : List ℕ) → elements_refusal l1 l2 ≡ None → Accepted l1 l2
 unfolding elements_refusal
 accepted l1 l2 z =
     let p = passed (matches_line readable1 l1 && matches_line readable2 l2) (summed l1 && summed l2) (circular l2) z in
@@ -216,23 +217,22 @@ accepted l1 l2 z =
     let s = and_true (summed l1) (summed l2) p.1 in
     record { right_1 = m.0; right_2 = m.1; summed_1 = s.0; summed_2 = s.1 }
 
-refused_1 : (k : ℕ) (l1 l2 : List ℕ) → Spoilt readable1 k l1 → matches_line readable2 l2 ≡ true → elements_refusal l1 l2 ≡ changed_refusal k
+refused_1 : (k : ℕ) (l1 l2 : List ℕ) → Spoilt readable1 k l1 → matches_line readable2 l2 ≡ true → elements_refusal l1 l2 ≡ Some (changed_refusal k)
 unfolding elements_refusal
 refused_1 zero l1 l2 p m = simp p
 refused_1 (suc k) l1 l2 p m = simp (p.0, p.1, m, ne_eqb (suc k) 0 (λ z. omega arith))
 
-refused_2 : (k : ℕ) (l1 l2 : List ℕ) → Spoilt readable2 k l2 → matches_line readable1 l1 ≡ true → summed l1 ≡ true → elements_refusal l1 l2 ≡ changed_refusal k
+refused_2 : (k : ℕ) (l1 l2 : List ℕ) → Spoilt readable2 k l2 → matches_line readable1 l1 ≡ true → summed l1 ≡ true → elements_refusal l1 l2 ≡ Some (changed_refusal k)
 unfolding elements_refusal
 refused_2 zero l1 l2 p m s = simp (p, m)
 refused_2 (suc k) l1 l2 p m s = simp (p.0, p.1, m, s, ne_eqb (suc k) 0 (λ z. omega arith))
 
-zeros : (k : ℕ) (l1 l2 : List ℕ) → elements_refusal l1 l2 ≡ changed_refusal k → read_element_lines_of l1 l2 ≡ refused_elements (changed_refusal k)
+refused : (k : ℕ) (l1 l2 : List ℕ) → elements_refusal l1 l2 ≡ Some (changed_refusal k) → read_element_lines_of l1 l2 ≡ Err (changed_refusal k)
 unfolding read_element_lines_of
-zeros zero l1 l2 e = rw e refl
-zeros (suc k) l1 l2 e = let n : eqb (suc k) 0 ≡ false = ne_eqb (suc k) 0 (λ z. omega arith) in simp (e, n)
+refused k l1 l2 e = rw e refl
 
-pub one_digit_1 : (k : ℕ) (l1 l1' l2 : List ℕ) → elements_refusal l1 l2 ≡ 0 → DigitChanged k l1 l1' → read_element_lines_of l1' l2 ≡ refused_elements (changed_refusal k)
-one_digit_1 k l1 l1' l2 z c = let a = accepted l1 l2 z in zeros k l1' l2 (refused_1 k l1' l2 (spoilt_1 k l1 l1' a.right_1 a.summed_1 c) a.right_2)
+pub one_digit_1 : (k : ℕ) (l1 l1' l2 : List ℕ) → elements_refusal l1 l2 ≡ None → DigitChanged k l1 l1' → read_element_lines_of l1' l2 ≡ Err (changed_refusal k)
+one_digit_1 k l1 l1' l2 z c = let a = accepted l1 l2 z in refused k l1' l2 (refused_1 k l1' l2 (spoilt_1 k l1 l1' a.right_1 a.summed_1 c) a.right_2)
 
-pub one_digit_2 : (k : ℕ) (l1 l2 l2' : List ℕ) → elements_refusal l1 l2 ≡ 0 → DigitChanged k l2 l2' → read_element_lines_of l1 l2' ≡ refused_elements (changed_refusal k)
-one_digit_2 k l1 l2 l2' z c = let a = accepted l1 l2 z in zeros k l1 l2' (refused_2 k l1 l2' (spoilt_2 k l2 l2' a.right_2 a.summed_2 c) a.right_1 a.summed_1)
+pub one_digit_2 : (k : ℕ) (l1 l2 l2' : List ℕ) → elements_refusal l1 l2 ≡ None → DigitChanged k l2 l2' → read_element_lines_of l1 l2' ≡ Err (changed_refusal k)
+one_digit_2 k l1 l2 l2' z c = let a = accepted l1 l2 z in refused k l1 l2' (refused_2 k l1 l2' (spoilt_2 k l2 l2' a.right_2 a.summed_2 c) a.right_1 a.summed_1)

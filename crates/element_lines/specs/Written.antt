@@ -2,7 +2,8 @@
 use Rattle.std.specs.Prelude.{◌≡◌, cond, List, ℕ, ◌+◌, ◌%◌, ◌<◌, T, eqb, length, get_or, set, take, drop}
 use Rattle.decimal.specs.Fixed.{nearest_units}
 use Rattle.decimal.specs.Read.{is_digit}
-use Rattle.refusal.specs.Numbers.{line_columns, line_checksum}
+use Rattle.refusal.specs.declared.Refusal.{Refusal}
+use Rattle.refusal.specs.declared.Refusal.TheVariants.{LineColumns, LineChecksum}
 use Rattle.tle.specs.Elements.{printed_degrees, within_turn, mean_motion_of, line_epoch}
 use Rattle.solution.specs.declared.SolvedOrbit.{SolvedOrbit}
 use Rattle.element_lines.specs.declared.Elements.{Elements}
@@ -19,7 +20,6 @@ unfoldable pub printed_elements : SolvedOrbit → Elements
 printed_elements o =
     let e = line_epoch o.epoch in
     record {
-      refusal = 0;
       year = e.year % 100;
       day = nearest_units 8 e.day;
       inclination = nearest_units 4 (printed_degrees o.i);
@@ -37,6 +37,6 @@ pub record DigitChanged (k : ℕ) (l l' : List ℕ) : Type 0 where
   pub other : d ≡ get_or l k 0 → ⊥
   pub is : l' ≡ set l k d
 
--- the refusal of an accepted pair with one digit changed at place k of either line: 14 where it is the line's number, else 15
-abbrev pub changed_refusal : ℕ → ℕ
-changed_refusal k = cond (eqb k 0) line_columns line_checksum
+-- the refusal of an accepted pair with one digit changed at place k of either line: of the columns where it is the line's number, else of the checksum
+abbrev pub changed_refusal : ℕ → Refusal
+changed_refusal k = cond (eqb k 0) LineColumns LineChecksum

@@ -19,9 +19,9 @@ fn digits(l: &[u8]) -> u64
     requires { length l.now ≤ 12 }
     ensures { (result ≡ read_digits 0 l.now) × (result < 1000000000000) }
 {
-    let mut n: u64 = 0;
-    for i in 0usize..l.len() {
-        n = with_byte(n, l[i]);
+    let mut n = 0;
+    for c in l {
+        n = with_byte(n, *c);
     }
     n
 }

@@ -9,6 +9,9 @@ use lib.Dec.{eqb}
 use lib.ListN.{length, get_or, take, drop, length-append}
 use lib.Seq.{take_all, length-sets}
 use Rattle.laws.proofs.Lists.{prefix, rest}
+use Rattle.std.specs.Prelude.{Result, Ok, Err}
+use Rattle.refusal.specs.Refusals.{number_of}
+use Rattle.refusal.specs.declared.Refusal.{Refusal}
 use Rattle.append.specs.Append.{Appends}
 use Rattle.append.proofs.Appending.{called, numeral_length}
 use Rattle.passes.specs.Text.{Placed, push, starts_lf, lines, Cut}
@@ -75,19 +78,16 @@ refused_length : (k : ℕ) → length (refusal_shown k) ≤ 128
 unfolding refusal_shown
 refused_length k = simp length-append (omega (arith, numeral_length k))
 
-answer_length : (e : Elements) → length (elements_line e) ≤ 128
-answer_length e = go (eqb e.refusal 0)
-  where
-    go : (t : Bool) → length (cond t (numbers_line e) (refusal_shown e.refusal)) ≤ 128
-    go true = numbers_length e
-    go false = refused_length e.refusal
+answer_length : (e : Result Elements Refusal) → length (elements_line e) ≤ 128
+answer_length (Ok e) = numbers_length e
+answer_length (Err r) = refused_length (number_of r)
 
 shown : (input out out' : List ℕ) (n : ℕ) → length (shown_line input) ≤ length out → Appends (shown_line input) 0 out out' n → Shows input out out' n
 shown input out out' n h a =
     let e : n ≡ length (shown_line input) = a.behind ∙ rw zero-add (min-eq_left h) in
     record { is = a.is; counted = e; room = rw (a.is, length-sets, e) h }
 
-pub shows : (input out out' : List ℕ) (n : ℕ) {text l1 l2 : List ℕ} {e : Elements} → 128 ≡ length out
+pub shows : (input out out' : List ℕ) (n : ℕ) {text l1 l2 : List ℕ} {e : Result Elements Refusal} → 128 ≡ length out
     → text ≡ take 256 input → l1 ≡ line_at 0 text → l2 ≡ line_at 1 text → e ≡ read_element_lines_of l1 l2 → Appends (elements_line e) 0 out out' n → Shows input out out' n
 unfolding shown_line
 shows input out out' n {e = e} s t f g r a =

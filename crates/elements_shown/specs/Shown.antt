@@ -1,7 +1,9 @@
 -- The line that `read_lines` prints of its input: of element lines their six numbers, refused - and the number of the refusal.
-use Rattle.std.specs.Prelude.{ℕ, ◌≤◌, ◌≡◌, cond, List, [], ◌++◌, map, eqb, length, get_or, take}
+use Rattle.std.specs.Prelude.{ℕ, ◌≤◌, ◌≡◌, List, [], ◌++◌, map, length, get_or, take, Result, Ok, Err}
 use Rattle.std.proofs.lemmas.List.Edits.{sets}
 use Rattle.text.specs.Text.{bytes}
+use Rattle.refusal.specs.Refusals.{number_of}
+use Rattle.refusal.specs.declared.Refusal.{Refusal}
 use Rattle.append.specs.Append.{numeral}
 use Rattle.passes.specs.Text.{lines}
 use Rattle.element_lines.specs.Reading.{read_element_lines_of}
@@ -22,8 +24,9 @@ numbers_line e =
 unfoldable pub refusal_shown : ℕ → List ℕ
 refusal_shown k = bytes "- " ++ (numeral k ++ bytes "\n")
 
-abbrev pub elements_line : Elements → List ℕ
-elements_line e = cond (eqb e.refusal 0) (numbers_line e) (refusal_shown e.refusal)
+abbrev pub elements_line : Result Elements Refusal → List ℕ
+elements_line (Ok e) = numbers_line e
+elements_line (Err r) = refusal_shown (number_of r)
 
 -- the line of a text: its first two lines are read
 abbrev pub text_line : List ℕ → List ℕ

@@ -9,6 +9,7 @@ ghost use Rattle.elements_shown.specs.Shown.{line_at, item, numbers_line, refusa
 
 use element_lines::Elements;
 use passes::pieces;
+use refusal::Refusal;
 
 // What is read of an input. It decides: a second line behind a first of 69 bytes begins by byte 72, so a line that is cut here has more than 69,
 // or stands behind a first that has not 69. The answer is refusal 14, as it would be for the whole line.
@@ -70,14 +71,13 @@ fn put_refusal(k: u32, out: &mut [u8]) -> usize
     append::text(b"\n", out, b)
 }
 
-fn put_answer(e: Elements, out: &mut [u8]) -> usize
-    ensures { Appends (elements_line e) 0 out.old out.new result }
+fn put_answer(answer: Result<Elements, Refusal>, out: &mut [u8]) -> usize
+    ensures { Appends (elements_line answer) 0 out.old out.new result }
 {
-    let k = e.refusal;
-    if k == 0 {
-        return put_numbers(e, out);
+    match answer {
+        Ok(e) => put_numbers(e, out),
+        Err(r) => put_refusal(r.number(), out),
     }
-    put_refusal(k, out)
 }
 
 // The line with its line end into the first bytes of `out`, and its length.

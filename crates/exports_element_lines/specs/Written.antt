@@ -1,11 +1,13 @@
--- What a call gives for an answer: the refusal's number, and its six numbers, or, refused, what was there.
-use Rattle.std.specs.Prelude.{◌≡◌, List, [], ◌∷◌, ℕ}
-use Rattle.refusal.specs.Order.{unless_refused}
+-- What a call gives for an answer: its number, and its six numbers, or, refused, what was there.
+use Rattle.std.specs.Prelude.{◌≡◌, List, [], ◌∷◌, ℕ, Result, Ok, Err}
+use Rattle.refusal.specs.Refusals.{status_of, left_by}
+use Rattle.refusal.specs.declared.Refusal.{Refusal}
 use Rattle.element_lines.specs.declared.Elements.{Elements}
 
-abbrev pub six_numbers : Elements → List ℕ
-six_numbers e = e.year ∷ e.day ∷ e.inclination ∷ e.node ∷ e.mean_anomaly ∷ e.mean_motion ∷ []
+abbrev pub six_numbers : Result Elements Refusal → Result (List ℕ) Refusal
+six_numbers (Ok e) = Ok (e.year ∷ e.day ∷ e.inclination ∷ e.node ∷ e.mean_anomaly ∷ e.mean_motion ∷ [])
+six_numbers (Err r) = Err r
 
-pub record GivesElements (e : Elements) (out out' : List ℕ) (r : ℕ) : Type 0 where
-  pub number : r ≡ e.refusal
-  pub numbers : out' ≡ unless_refused e.refusal (six_numbers e) out
+pub record GivesElements (e : Result Elements Refusal) (out out' : List ℕ) (r : ℕ) : Type 0 where
+  pub number : r ≡ status_of e
+  pub numbers : out' ≡ left_by out (six_numbers e)

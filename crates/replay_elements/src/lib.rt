@@ -5,21 +5,21 @@ ghost use Rattle.text.specs.Text.{bytes};
 ghost use Rattle.answer_lines.specs.Lines.{OnlyWords};
 
 use element_lines::Elements;
+use refusal::Refusal;
 
-fn same(answer: &[u8], e: Elements) -> bool {
-    let refusal = e.refusal;
-    if !answer_lines::refused(answer, refusal) {
-        return false;
+fn same(answer: &[u8], read: Result<Elements, Refusal>) -> bool {
+    match read {
+        Ok(e) => {
+            answer_lines::refused(answer, 0)
+                && answer_lines::field(answer, 1) == e.year
+                && answer_lines::field(answer, 2) == e.day
+                && answer_lines::field(answer, 3) == e.inclination
+                && answer_lines::field(answer, 4) == e.node
+                && answer_lines::field(answer, 5) == e.mean_anomaly
+                && answer_lines::field(answer, 6) == e.mean_motion
+        }
+        Err(refusal) => answer_lines::refused(answer, refusal.number()),
     }
-    if refusal != 0 {
-        return true;
-    }
-    answer_lines::field(answer, 1) == e.year
-        && answer_lines::field(answer, 2) == e.day
-        && answer_lines::field(answer, 3) == e.inclination
-        && answer_lines::field(answer, 4) == e.node
-        && answer_lines::field(answer, 5) == e.mean_anomaly
-        && answer_lines::field(answer, 6) == e.mean_motion
 }
 
 // Whether two lines, n1 bytes from the first field of `first` on and n2 of `second`, are read as the answer says.

@@ -8,25 +8,23 @@ use Rattle.tle.specs.Printed.{read_digits}
 use Rattle.element_lines.proofs.Digits.{next, end, twelve, one_more}
 use Rattle.element_lines.proofs.numbers.digits.Goals as goal
 
-pub loop-i-init : goal.loop-i-init
-loop-i-init c = record { small = omega arith; turns = omega arith; low = lit< tt; is = refl }
+pub loop-c-init : goal.loop-c-init
+loop-c-init c = record { low = lit< tt; is = refl }
 
 pub with_byte-n-requires : goal.with_byte-n-requires
-with_byte-n-requires c = let l = c.loop-i in twelve l.n l.i l.invariant.low (omega arith)
+with_byte-n-requires c = let l = c.loop-c in twelve l.n l.c-index l.invariant.low (omega (arith, c.requires))
 
-pub loop-i-preserved : goal.loop-i-preserved
-loop-i-preserved c =
-    let l = c.loop-i in
+pub loop-c-preserved : goal.loop-c-preserved
+loop-c-preserved c =
+    let l = c.loop-c in
     let w = c.with_byte-n.ensures in
     let all = c.args.l.now in
     record {
-      small = l.invariant.small;
-      turns = omega arith;
-      low = one_more _ l.n l.i l.invariant.low w.1;
-      is = ap (λ r. read_digits r (drop (l.i + 1) all)) w.0 ∙ next l.n l.i all (omega arith) ∙ l.invariant.is;
+      low = one_more _ l.n l.c-index l.invariant.low w.1;
+      is = ap (λ r. read_digits r (drop (l.c-index + 1) all)) w.0 ∙ next l.n l.c-index all (omega arith) ∙ l.invariant.is;
     }
 
 pub returns : goal.returns
 returns c =
-    let l = c.loop-i in
-    (sym (end l.n l.i _ l.invariant.turns c.loop-i-test.false) ∙ l.invariant.is, twelve l.n l.i l.invariant.low (omega arith))
+    let l = c.loop-c in
+    (sym (end l.n l.c-index _ (omega arith) c.loop-c-test.false) ∙ l.invariant.is, twelve l.n l.c-index l.invariant.low (omega (arith, c.requires)))

@@ -1,9 +1,0 @@
-use mathlib.Core.Path.{refl, sym}
-use Rattle.refusal.proofs.Written as written
-use Rattle.exports_element_lines.proofs.put.Goals as goal
-
-pub returns-then-n-ne-TAKEN : goal.returns-then-n-ne-TAKEN
-returns-then-n-ne-TAKEN c = record { number = refl; numbers = written.kept _ _ _ c.if-n-ne-TAKEN.true }
-
-pub returns : goal.returns
-returns c = let z = c.if-n-ne-TAKEN.false in record { number = sym z; numbers = written.put _ _ _ _ z refl }
