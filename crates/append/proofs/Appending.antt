@@ -12,7 +12,8 @@ use borrow.Rule.Slice.PartMut.{put_mid}
 use borrow.Author.Tests.{le-leb, lt-leb}
 use Rattle.laws.proofs.Lists.{sets_append}
 use Rattle.decimal.specs.Fixed.{digit_at}
-use Rattle.append.specs.Append.{Appends, leading_of, digits_from, numeral}
+use Rattle.append.specs.declared.Text.{Text}
+use Rattle.append.specs.Append.{Appends, Begins, Puts, leading_of, digits_from, numeral}
 
 -- past the end nothing is stored
 pub sets_out : (vs o : List ℕ) (i : ℕ) → length o ≤ i → sets o i vs ≡ o
@@ -46,33 +47,44 @@ both_is a b o i (second e h) =
     rw e (sets_out b (sets o i a) (length o) (omega arith) ∙ sym (sets_append a b o i ∙ sets_out b (sets o i a) (i + length a) (omega arith)))
 
 -- a piece, and another behind it
-pub both : {a b : List ℕ} {i n m : ℕ} {o p q : List ℕ} → Appends a i o p n → Appends b n p q m → Appends (a ++ b) i o q m
-both {a} {b} {i} {n} {m} {o} {p} {q} f g =
+joined : {a b : List ℕ} {i n m : ℕ} {o p q : List ℕ} → Appends a i o p n → Appends b n p q m → Appends (a ++ b) i o q m
+joined {a} {b} {i} {n} {m} {o} {p} {q} f g =
     let l = least (i + length a) (length o) in
     record {
       is = rw (g.is, f.is, f.behind) (both_is a b o i l);
       behind = rw (g.behind, f.is, f.behind, length-sets, length-append) (both_behind i (length a) (length b) (length o) l);
     }
 
+pub both : {a b : List ℕ} {t u v : Text} → Puts a t u → Puts b u v → Puts (a ++ b) t v
+both f g = record { appends = joined f.appends g.appends; same_buffer = g.same_buffer ∙ f.same_buffer }
+
 -- the same text, written otherwise
-pub called : {a b : List ℕ} {i n : ℕ} {o p : List ℕ} → a ≡ b → Appends a i o p n → Appends b i o p n
-called {i = i} {n = n} {o = o} {p = p} e f = subst (λ (l : List ℕ). Appends l i o p n) e f
+pub called : {a b : List ℕ} {t u : Text} → a ≡ b → Puts a t u → Puts b t u
+called {t = t} {u = u} e f = subst (λ (l : List ℕ). Puts l t u) e f
 
--- what is left to be put, done at the present place, gives what the whole does from the start
-pub record Rest (t : List ℕ) (i : ℕ) (o whole : List ℕ) (i₀ : ℕ) (o₀ : List ℕ) : Type 0 where
-  pub gives : {q : List ℕ} {m : ℕ} → Appends t i o q m → Appends whole i₀ o₀ q m
+-- nothing is put
+pub none : (t : Text) → Puts [] t t
+none t =
+    let w = t.within in
+    record { appends = record { is = refl; behind = sym (min-eq_left (omega (arith, w))) ∙ ap (λ (k : ℕ). min k (length t.out.now)) (let z : t.at ≡ t.at + 0 = omega arith in z) }; same_buffer = refl }
 
-pub begins : {t : List ℕ} {i : ℕ} {o : List ℕ} → Rest t i o t i o
+-- a text alone in its buffer
+pub alone : {a o : List ℕ} {t u : Text} → Begins o t → Puts a t u → Appends a 0 o u.out.now u.at
+alone {a} {o} {t} {u} b f =
+    let e : Appends a 0 t.out.now u.out.now u.at = subst (λ (i : ℕ). Appends a i t.out.now u.out.now u.at) b.at_first f.appends in
+    subst (λ (l : List ℕ). Appends a 0 l u.out.now u.at) b.buffer e
+
+-- what is left to be put, done at the present text, gives what the whole does from the start
+pub record Rest (a : List ℕ) (t : Text) (whole : List ℕ) (t₀ : Text) : Type 0 where
+  pub gives : {u : Text} → Puts a t u → Puts whole t₀ u
+
+pub begins : {a : List ℕ} {t : Text} → Rest a t a t
 begins = record { gives = λ f. f }
 
-pub goes_on : {a b whole : List ℕ} {i n i₀ : ℕ} {o p o₀ : List ℕ} → Rest (a ++ b) i o whole i₀ o₀ → Appends a i o p n → Rest b n p whole i₀ o₀
+pub goes_on : {a b whole : List ℕ} {t u t₀ : Text} → Rest (a ++ b) t whole t₀ → Puts a t u → Rest b u whole t₀
 goes_on r f = record { gives = λ g. r.gives (both f g) }
 
 -- ---- one piece, as far as there is room
-
--- nothing is stored, and the place is in the buffer or at its end
-pub none : (o : List ℕ) (i : ℕ) {n : ℕ} → n ≡ min i (length o) → Appends [] i o o n
-none o i e = record { is = refl; behind = e ∙ ap (λ (k : ℕ). min k (length o)) (let z : i ≡ i + 0 = omega arith in z) }
 
 -- a part of the buffer, given back with its values
 put_back : (o v : List ℕ) (s n : ℕ) → length v ≡ n → s + n ≤ length o → put_mid s (s + n - s) o v ≡ sets o s v
@@ -82,38 +94,27 @@ put_back o v s n e h =
     ∙ sym (append_assoc (take s o) v (drop (s + length v) o))
     ∙ sym (sets-eq v o s (omega (arith, e, h)))
 
--- what finds room, from the place or from the end on, is all that is stored
-fits_in : (t o : List ℕ) (i : ℕ) → Least i (length o) → {s n : ℕ} → s ≡ min i (length o) → n ≡ min (length t) (length o - s) → sets o s (take n t) ≡ sets o i t
-fits_in t o i (second e h) {s} {n} p q =
-    let z : n ≡ 0 = omega (arith, p, q, e) in
-    ap (λ (k : ℕ). sets o s (take k t)) z ∙ sym (sets_out t o i h)
-fits_in t o i (first e h) {s} {n} p q = rw (p ∙ e) (go (least (length t) (length o - i)))
+-- what finds room is all that is stored
+fits_in : (t o : List ℕ) (i : ℕ) {n : ℕ} → i ≤ length o → n ≡ min (length t) (length o - i) → sets o i (take n t) ≡ sets o i t
+fits_in t o i {n} h q = go (least (length t) (length o - i))
   where
     go : Least (length t) (length o - i) → sets o i (take n t) ≡ sets o i t
-    go (first f g) = ap (sets o i) (take_all n t (omega (arith, p, q, e, g)))
+    go (first f g) = ap (sets o i) (take_all n t (omega (arith, q, g)))
     go (second f g) =
-        let m : n ≡ length o - i = omega (arith, p, q, e, f) in
+        let m : n ≡ length o - i = omega (arith, q, f) in
         let l : length (take n t) ≡ n = length-take-le n t (omega (arith, m, g)) in
         sym
         (ap (sets o i) (sym (take-append-drop n t))
         ∙ sets_append (take n t) (drop n t) o i
         ∙ sets_out (drop n t) (sets o i (take n t)) (i + length (take n t)) (omega (arith, l, m, h, length-sets o i (take n t))))
 
-pub placed : (t o : List ℕ) (i : ℕ) {s n : ℕ} {v : List ℕ} → s ≡ min i (length o) → n ≡ min (length t) (length o - s) → v ≡ take n t → Appends t i o (put_mid s (s + n - s) o v) (s + n)
-placed t o i {s} {n} {v} p q e =
+pub placed : (t o : List ℕ) (i : ℕ) {n : ℕ} {v : List ℕ} → i ≤ length o → n ≡ min (length t) (length o - i) → v ≡ take n t → Appends t i o (put_mid i (i + n - i) o v) (i + n)
+placed t o i {n} {v} h q e =
     let l : length v ≡ n = ap length e ∙ length-take-le n t (omega (arith, q)) in
     record {
-      is = put_back o v s n l (omega (arith, p, q)) ∙ ap (sets o s) e ∙ fits_in t o i (least i (length o)) p q;
-      behind = omega (arith, p, q);
+      is = put_back o v i n l (omega (arith, h, q)) ∙ ap (sets o i) e ∙ fits_in t o i h q;
+      behind = omega (arith, h, q);
     }
-
--- ---- a digit
-
-pub has_digit : (n i : ℕ) {p d at next : ℕ} {o q : List ℕ} → p ≡ 10 ^ i → d ≡ digit_at n i → p ≤ n → Appends (d ∷ []) at o q next → Appends (leading_of n i) at o q next
-has_digit n i e f h a = let t = le-leb (10 ^ i) n (rw e at h) in rw t (rw f at a)
-
-pub no_digit : (n i : ℕ) {p at next : ℕ} {o q : List ℕ} → p ≡ 10 ^ i → n < p → Appends [] at o q next → Appends (leading_of n i) at o q next
-no_digit n i e h a = let t = lt-leb (10 ^ i) n (rw e at h) in rw t a
 
 -- ---- the length of a number
 

@@ -2,11 +2,22 @@
 use Rattle.std.specs.Prelude.{ℕ, zero, suc, ◌+◌, ◌^◌, min, ◌≡◌, cond, List, [], ◌∷◌, ◌++◌, leb, length}
 use Rattle.std.proofs.lemmas.List.Edits.{sets}
 use Rattle.decimal.specs.Fixed.{digit_at}
+use Rattle.append.specs.declared.Text.{Text}
 
 -- `text` from place `at` on, what finds no room left out, and `next` the place behind it
 pub record Appends (text : List ℕ) (at : ℕ) (out out' : List ℕ) (next : ℕ) : Type 0 where
   pub is : out' ≡ sets out at text
   pub behind : next ≡ min (at + length text) (length out)
+
+-- a buffer with these bytes in it and no text yet
+pub record Begins (out : List ℕ) (t : Text) : Type 0 where
+  pub buffer : t.out.now ≡ out
+  pub at_first : t.at ≡ 0
+
+-- `text` is put behind what was there, into the same buffer
+pub record Puts (text : List ℕ) (t t' : Text) : Type 0 where
+  pub appends : Appends text t.at t.out.now t'.out.now t'.at
+  pub same_buffer : t'.out.ghost_name ≡ t.out.ghost_name
 
 -- the digit of n at 10 ^ i, where n has one there
 abbrev pub leading_of : ℕ → ℕ → List ℕ

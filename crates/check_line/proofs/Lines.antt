@@ -1,22 +1,22 @@
 -- A line has room: a name is a part of its file. Assumes nothing.
-use mathlib.Core.Path.{◌≡◌, sym, ap, ◌∙◌}
-use mathlib.Core.Bool.{Bool, true, false, cond}
+use mathlib.Core.Path.{◌≡◌, refl, sym, ap, ◌∙◌}
+use mathlib.Core.Bool.{Bool, true, false, not, cond}
 use mathlib.Core.List.{List}
-use Prim.Native.Nat.{ℕ, ◌-◌, ◌≤◌}
-use native.Mathlib.Nat.{min-eq_left, min-le_left, min-le_right, zero-add}
+use Prim.Native.Nat.{ℕ, ◌-◌, ◌≤◌, ◌<◌, min}
+use native.Mathlib.Nat.{min-eq_left, min-eq_right, le_of_lt, min-le_left, min-le_right, zero-add}
 use native.Mathlib.Omega.{arith}
-use lib.Dec.{eqb, ltb}
+use lib.Dec.{T, eqb, ltb, ltb→lt, nltb→le}
 use lib.ListN.{length, take, drop, length-append, length-take, length-drop}
 use lib.Seq.{take_all, length-sets}
 use Rattle.text.specs.Text.{bytes}
-use Rattle.append.specs.Append.{Appends}
-use Rattle.append.proofs.Appending.{called, numeral_length}
+use Rattle.append.specs.declared.Text.{Text}
+use Rattle.append.specs.Append.{Appends, Begins, Puts}
+use Rattle.append.proofs.Appending.{called, alone, numeral_length}
 use Rattle.passes.specs.File as File
 use Rattle.passes.specs.declared.file.PassFile.{PassFile}
 use Rattle.check_line.specs.Check.{name_shown, accepted_line, refused_line, file_line, check_line, Checks}
 
-pub seen : (file : List ℕ) (r : PassFile) {p o q : List ℕ} {i n : ℕ} → r.name_seen ≡ true → p ≡ File.name_of file r → Appends p i o q n
-    → Appends (name_shown file r) i o q n
+pub seen : (file : List ℕ) (r : PassFile) {p : List ℕ} {t u : Text} → r.name_seen ≡ true → p ≡ File.name_of file r → Puts p t u → Puts (name_shown file r) t u
 seen file r e f = called (f ∙ sym (ap (λ (t : Bool). cond t (File.name_of file r) (bytes "UNKNOWN")) e))
 
 either : (n : ℕ) (t : Bool) (a b : List ℕ) → length a ≤ n → length b ≤ n → length (cond t a b) ≤ n
@@ -49,13 +49,22 @@ line_length file h =
     let r = File.answer file 4096 4096 in
     either 32800 (eqb r.refusal 0) (accepted_line file r) (refused_line r.refusal) (accepted_length file r h) (refused_length r.refusal)
 
-pub checks : (file out out' : List ℕ) (n : ℕ) → 32800 ≡ length out → Appends (file_line (take 32768 file)) 0 out out' n → Checks file out out' n
+checked : (file out out' : List ℕ) (n : ℕ) → 32800 ≡ length out → Appends (check_line file) 0 out out' n → Checks file out out' n
 unfolding check_line
-checks file out out' n s a =
+checked file out out' n s a =
     let h : length (file_line (take 32768 file)) ≤ 32800 = line_length (take 32768 file) (omega (arith, length-take 32768 file, min-le_left 32768 (length file))) in
     let h' : length (file_line (take 32768 file)) ≤ length out = rw (← s) h in
     let e : n ≡ length (file_line (take 32768 file)) = a.behind ∙ rw zero-add (min-eq_left h') in
     record { is = a.is; counted = e; room = rw (a.is, length-sets, e) h' }
 
-pub checks_all : (file out out' : List ℕ) (n : ℕ) → length file ≤ 32768 → 32800 ≡ length out → Appends (file_line file) 0 out out' n → Checks file out out' n
-checks_all file out out' n h s a = checks file out out' n s (called (ap file_line (sym (take_all 32768 file h))) a)
+-- what is shorter than its first n bytes
+no_longer : (n : ℕ) (l : List ℕ) → take (min (length l) n) l ≡ take n l
+no_longer n l = go (ltb (length l) n) (ltb→lt (length l) n) (nltb→le (length l) n)
+  where
+    go : (t : Bool) → (T t → length l < n) → (T (not t) → n ≤ length l) → take (min (length l) n) l ≡ take n l
+    go true f g = rw (min-eq_left (le_of_lt (f tt))) (take_all (length l) l (omega arith) ∙ sym (take_all n l (le_of_lt (f tt))))
+    go false f g = rw (min-eq_right (g tt)) refl
+
+pub checks : (file out : List ℕ) {k : ℕ} {t u : Text} → 32800 ≡ length out → k ≡ min (length file) 32768 → Begins out t → Puts (file_line (take k file)) t u → Checks file out u.out.now u.at
+unfolding check_line
+checks file out s e b a = checked file out _ _ s (alone b (called (ap file_line (ap (λ (k : ℕ). take k file) e ∙ no_longer 32768 file)) a))

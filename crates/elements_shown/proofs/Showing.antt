@@ -12,8 +12,9 @@ use Rattle.laws.proofs.Lists.{prefix, rest}
 use Rattle.std.specs.Prelude.{Result, Ok, Err}
 use Rattle.refusal.specs.Refusals.{number_of}
 use Rattle.refusal.specs.declared.Refusal.{Refusal}
-use Rattle.append.specs.Append.{Appends}
-use Rattle.append.proofs.Appending.{called, numeral_length}
+use Rattle.append.specs.declared.Text.{Text}
+use Rattle.append.specs.Append.{Appends, Begins, Puts}
+use Rattle.append.proofs.Appending.{called, alone, numeral_length}
 use Rattle.passes.specs.Text.{Placed, push, starts_lf, lines, Cut}
 use Rattle.element_lines.specs.Reading.{read_element_lines_of}
 use Rattle.element_lines.specs.declared.Elements.{Elements}
@@ -87,10 +88,10 @@ shown input out out' n h a =
     let e : n ≡ length (shown_line input) = a.behind ∙ rw zero-add (min-eq_left h) in
     record { is = a.is; counted = e; room = rw (a.is, length-sets, e) h }
 
-pub shows : (input out out' : List ℕ) (n : ℕ) {text l1 l2 : List ℕ} {e : Result Elements Refusal} → 128 ≡ length out
-    → text ≡ take 256 input → l1 ≡ line_at 0 text → l2 ≡ line_at 1 text → e ≡ read_element_lines_of l1 l2 → Appends (elements_line e) 0 out out' n → Shows input out out' n
+pub shows : (input out : List ℕ) {part l1 l2 : List ℕ} {e : Result Elements Refusal} {t u : Text} → 128 ≡ length out
+    → part ≡ take 256 input → l1 ≡ line_at 0 part → l2 ≡ line_at 1 part → e ≡ read_element_lines_of l1 l2 → Begins out t → Puts (elements_line e) t u → Shows input out u.out.now u.at
 unfolding shown_line
-shows input out out' n {e = e} s t f g r a =
-    let same : elements_line e ≡ shown_line input = ap elements_line (r ∙ (λ j. read_element_lines_of (f j) (g j)) ∙ (λ j. read_element_lines_of (line_at 0 (t j)) (line_at 1 (t j)))) in
+shows input out {e = e} s p f g r b a =
+    let same : elements_line e ≡ shown_line input = ap elements_line (r ∙ (λ j. read_element_lines_of (f j) (g j)) ∙ (λ j. read_element_lines_of (line_at 0 (p j)) (line_at 1 (p j)))) in
     let h : length (elements_line e) ≤ length out = rw (← s) (answer_length e) in
-    shown input out out' n (rw same at h) (called same a)
+    shown input out _ _ (rw same at h) (alone b (called same a))

@@ -4,9 +4,10 @@
 pub mod program;
 
 ghost use Rattle.std.specs.Prelude.{◌≡◌, take};
-ghost use Rattle.append.specs.Append.{Appends};
+ghost use Rattle.append.specs.Append.{Puts};
 ghost use Rattle.elements_shown.specs.Shown.{line_at, item, numbers_line, refusal_shown, elements_line, Shows};
 
+use append::Text;
 use element_lines::Elements;
 use passes::pieces;
 use refusal::Refusal;
@@ -44,39 +45,39 @@ fn second_line(text: &[u8]) -> &[u8]
 }
 
 // A number and the blank behind it.
-fn put_item(n: u64, out: &mut [u8], at: usize) -> usize
-    ensures { Appends (item n) at out.old out.new result }
+fn put_item(n: u64, text: &mut Text<'_>)
+    ensures { Puts (item n) text.old text.new }
 {
-    let next = append::number(n, out, at);
-    append::text(b" ", out, next)
+    text.put_number(n);
+    text.put(b" ");
 }
 
-fn put_numbers(e: Elements, out: &mut [u8]) -> usize
-    ensures { Appends (numbers_line e) 0 out.old out.new result }
+fn put_numbers(e: Elements, text: &mut Text<'_>)
+    ensures { Puts (numbers_line e) text.old text.new }
 {
-    let a = put_item(e.year, out, 0);
-    let b = put_item(e.day, out, a);
-    let c = put_item(e.inclination, out, b);
-    let d = put_item(e.node, out, c);
-    let f = put_item(e.mean_anomaly, out, d);
-    let g = append::number(e.mean_motion, out, f);
-    append::text(b"\n", out, g)
+    put_item(e.year, text);
+    put_item(e.day, text);
+    put_item(e.inclination, text);
+    put_item(e.node, text);
+    put_item(e.mean_anomaly, text);
+    text.put_number(e.mean_motion);
+    text.put(b"\n");
 }
 
-fn put_refusal(k: u32, out: &mut [u8]) -> usize
-    ensures { Appends (refusal_shown k) 0 out.old out.new result }
+fn put_refusal(k: u32, text: &mut Text<'_>)
+    ensures { Puts (refusal_shown k) text.old text.new }
 {
-    let a = append::text(b"- ", out, 0);
-    let b = append::number(k as u64, out, a);
-    append::text(b"\n", out, b)
+    text.put(b"- ");
+    text.put_number(k as u64);
+    text.put(b"\n");
 }
 
-fn put_answer(answer: Result<Elements, Refusal>, out: &mut [u8]) -> usize
-    ensures { Appends (elements_line answer) 0 out.old out.new result }
+fn put_answer(answer: Result<Elements, Refusal>, text: &mut Text<'_>)
+    ensures { Puts (elements_line answer) text.old text.new }
 {
     match answer {
-        Ok(e) => put_numbers(e, out),
-        Err(r) => put_refusal(r.number(), out),
+        Ok(e) => put_numbers(e, text),
+        Err(r) => put_refusal(r.number(), text),
     }
 }
 
@@ -84,8 +85,10 @@ fn put_answer(answer: Result<Elements, Refusal>, out: &mut [u8]) -> usize
 pub fn show_elements(input: &[u8], out: &mut [u8; 128]) -> usize
     ensures { Shows input.now out.old out.new result }
 {
-    let text = read_part(input);
-    let line1 = first_line(text);
-    let line2 = second_line(text);
-    put_answer(element_lines::read_element_lines(line1, line2), out)
+    let part = read_part(input);
+    let line1 = first_line(part);
+    let line2 = second_line(part);
+    let mut text = Text::new(out);
+    put_answer(element_lines::read_element_lines(line1, line2), &mut text);
+    text.len()
 }

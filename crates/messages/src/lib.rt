@@ -3,9 +3,10 @@
 
 ghost use Rattle.std.specs.Counts.{IsPrefixLen};
 
+use append::Text;
 use command::report::Biases;
 use frame::Vec3;
-use pass_files::say::{flush, write};
+use pass_files::say::write;
 use report_text::{fitted, refused};
 use std::env::Env;
 use std::io::Stderr;
@@ -97,15 +98,17 @@ pub fn long_number(stderr: Stderr, k: usize) {
 
 // A position line's refusal.
 pub fn no_place(stderr: Stderr, k: u32) {
-    let mut text = [0u8; 256];
-    let n = refused::file_refusal(b"fit_passes: LAT,LON,HEIGHT", 0, k, &mut text, 0);
-    flush(stderr, &text, n);
+    let mut room = [0u8; 256];
+    let mut text = Text::new(&mut room);
+    refused::file_refusal(b"fit_passes: LAT,LON,HEIGHT", 0, k, &mut text);
+    write(stderr, text.written());
 }
 
 pub fn refusal(stderr: Stderr, k: u32) {
-    let mut text = [0u8; 256];
-    let n = refused::refusal(k, &mut text, 0);
-    flush(stderr, &text, n);
+    let mut room = [0u8; 256];
+    let mut text = Text::new(&mut room);
+    refused::refusal(k, &mut text);
+    write(stderr, text.written());
 }
 
 pub fn name_unprintable(stderr: Stderr) {
@@ -124,22 +127,23 @@ pub fn orbit_unprintable(stderr: Stderr) {
 
 // The whole fit.
 pub fn fit(stderr: Stderr, trials: usize, best: f64, rms: f64, samples: usize, passes: usize) {
-    let mut text = [0u8; 512];
-    let n = fitted::fit(trials, best, rms, samples, passes, &mut text, 0);
-    flush(stderr, &text, n);
+    let mut room = [0u8; 512];
+    let mut text = Text::new(&mut room);
+    fitted::fit(trials, best, rms, samples, passes, &mut text);
+    write(stderr, text.written());
 }
 
 // The residual beside the samples' own noise, for so many non-empty passes.
 pub fn noise(stderr: Stderr, rms: f64, estimate: f64, passes: usize) {
-    let mut text = [0u8; 512];
-    let n = fitted::noise(
+    let mut room = [0u8; 512];
+    let mut text = Text::new(&mut room);
+    fitted::noise(
         estimate,
         noise::ratio(rms, estimate),
         noise::verdict(rms, estimate, passes),
         &mut text,
-        0,
     );
-    flush(stderr, &text, n);
+    write(stderr, text.written());
 }
 
 // The name of the file that word i gives, into the first places of out.
@@ -153,9 +157,10 @@ fn file_name(rt: &impl Env, i: usize, out: &mut [u8]) -> usize
 }
 
 fn pass_line(stderr: Stderr, name: &[u8], b: Biases) {
-    let mut text = [0u8; 4608];
-    let n = fitted::pass(name, b.dt, b.df, b.df1, b.df2, &mut text, 0);
-    flush(stderr, &text, n);
+    let mut room = [0u8; 4608];
+    let mut text = Text::new(&mut room);
+    fitted::pass(name, b.dt, b.df, b.df1, b.df2, &mut text);
+    write(stderr, text.written());
 }
 
 // The biases of the file of word i, if it has samples.
@@ -169,9 +174,10 @@ pub fn pass(rt: &impl Env, stderr: Stderr, i: usize, b: Biases) {
 }
 
 fn refused_line(stderr: Stderr, name: &[u8], k: u32) {
-    let mut text = [0u8; 4608];
-    let n = refused::file_refusal(name, 0, k, &mut text, 0);
-    flush(stderr, &text, n);
+    let mut room = [0u8; 4608];
+    let mut text = Text::new(&mut room);
+    refused::file_refusal(name, 0, k, &mut text);
+    write(stderr, text.written());
 }
 
 // A refusal for what is in the file of word i.

@@ -1,4 +1,5 @@
-// What is said of a file on standard error. `write` and `flush` serve the command too.
+// What is said of a file on standard error. `write` serves the command too.
+use append::Text;
 use std::io::Stderr;
 use survey::Tally;
 
@@ -9,9 +10,10 @@ pub fn write(stderr: Stderr, text: &[u8]) {
 
 // n in decimal digits.
 fn number(stderr: Stderr, n: usize) {
-    let mut text = [0u8; 20];
-    let k = append::number(n as u64, &mut text, 0);
-    flush(stderr, &text, k);
+    let mut room = [0u8; 20];
+    let mut text = Text::new(&mut room);
+    text.put_number(n as u64);
+    write(stderr, text.written());
 }
 
 // A message about one file.
@@ -22,17 +24,11 @@ pub fn file(stderr: Stderr, path: &[u8], what: &[u8]) {
     write(stderr, b"\n");
 }
 
-// The first n bytes.
-pub fn flush(stderr: Stderr, text: &[u8], n: usize) {
-    if n <= text.len() {
-        write(stderr, &text[..n]);
-    }
-}
-
 fn refused(stderr: Stderr, path: &[u8], k: u32, line: usize) {
-    let mut text = [0u8; 4608];
-    let n = report_text::refused::file_refusal(path, line, k, &mut text, 0);
-    flush(stderr, &text, n);
+    let mut room = [0u8; 4608];
+    let mut text = Text::new(&mut room);
+    report_text::refused::file_refusal(path, line, k, &mut text);
+    write(stderr, text.written());
 }
 
 fn all_or_some(stderr: Stderr, t: Tally) {

@@ -7,8 +7,9 @@ use native.Mathlib.Nat.{min-eq_left, zero-add}
 use native.Mathlib.Omega.{arith}
 use lib.ListN.{length, length-append}
 use lib.Seq.{length-sets}
-use Rattle.append.specs.Append.{Appends}
-use Rattle.append.proofs.Appending.{numeral_length}
+use Rattle.append.specs.declared.Text.{Text}
+use Rattle.append.specs.Append.{Begins, Puts}
+use Rattle.append.proofs.Appending.{alone, numeral_length}
 use Rattle.replay.specs.declared.Tally.{Tally}
 use Rattle.replay.specs.Report.{list_ending, report_text, Reports}
 
@@ -22,7 +23,8 @@ report_length t =
     simp length-append
     (omega (arith, numeral_length t.agreed, numeral_length t.differed, numeral_length t.caught, numeral_length t.missed, ending_length t.whole))
 
-pub reports : (t : Tally) (out out' : List ℕ) (n : ℕ) → 160 ≡ length out → Appends (report_text t) 0 out out' n → Reports t out out' n
-reports t out out' n s a =
+pub reports : (t : Tally) (out : List ℕ) {p q : Text} → 160 ≡ length out → Begins out p → Puts (report_text t) p q → Reports t out q.out.now q.at
+reports t out s b a =
+    let whole = alone b a in
     let h : length (report_text t) ≤ length out = rw (← s) (report_length t) in
-    record { is = a.is; counted = a.behind ∙ rw zero-add (min-eq_left h); sized = rw (a.is, length-sets) (sym s) }
+    record { is = whole.is; counted = whole.behind ∙ rw zero-add (min-eq_left h); sized = rw (whole.is, length-sets) (sym s) }

@@ -8,10 +8,11 @@ mod rooms;
 mod unpacked;
 
 ghost use Rattle.std.specs.Prelude.{◌≡◌, ◌+◌, ◌<◌, ◌++◌};
-ghost use Rattle.append.specs.Append.{Appends, numeral};
+ghost use Rattle.append.specs.Append.{Puts, numeral};
 ghost use Rattle.replay.specs.Count.{lines_in, counted, tally_with, tally_ended, Tallied};
 ghost use Rattle.replay.specs.Report.{list_ending, report_text, Reports};
 
+use append::Text;
 use std::io;
 use std::io::Stdout;
 
@@ -149,37 +150,39 @@ fn compare(stdout: Stdout, text: &[u8]) -> Tally
 }
 
 // A number and words after it.
-fn said(n: u64, words: &[u8], out: &mut [u8], at: usize) -> usize
-    ensures { Appends (numeral n ++ words.now) at out.old out.new result }
+fn said(n: u64, words: &[u8], text: &mut Text<'_>)
+    ensures { Puts (numeral n ++ words.now) text.old text.new }
 {
-    let next = append::number(n, out, at);
-    append::text(words, out, next)
+    text.put_number(n);
+    text.put(words);
 }
 
-fn ending(whole: bool, out: &mut [u8], at: usize) -> usize
-    ensures { Appends (list_ending whole) at out.old out.new result }
+fn ending(whole: bool, text: &mut Text<'_>)
+    ensures { Puts (list_ending whole) text.old text.new }
 {
     if whole {
-        return append::text(b"whole\n", out, at);
+        return text.put(b"whole\n");
     }
-    append::text(b"cut\n", out, at)
+    text.put(b"cut\n");
 }
 
-fn put_report(t: Tally, out: &mut [u8]) -> usize
-    ensures { Appends (report_text t) 0 out.old out.new result }
+fn put_report(t: Tally, text: &mut Text<'_>)
+    ensures { Puts (report_text t) text.old text.new }
 {
-    let a = said(t.agreed, b" agree, ", out, 0);
-    let b = said(t.differed, b" differ; changed lines: ", out, a);
-    let c = said(t.caught, b" differ, ", out, b);
-    let d = said(t.missed, b" agree; the list is ", out, c);
-    ending(t.whole, out, d)
+    said(t.agreed, b" agree, ", text);
+    said(t.differed, b" differ; changed lines: ", text);
+    said(t.caught, b" differ, ", text);
+    said(t.missed, b" agree; the list is ", text);
+    ending(t.whole, text);
 }
 
 // What the program prints, into the first bytes of `out`, and its length: there is room for all of it.
 fn report(t: Tally, out: &mut [u8; 160]) -> usize
     ensures { Reports t out.old out.new result }
 {
-    put_report(t, out)
+    let mut text = Text::new(out);
+    put_report(t, &mut text);
+    text.len()
 }
 
 fn main(rt: HostRuntime) -> io::Result<()> {

@@ -1,8 +1,9 @@
 // A float to six places. The functions that require something are internal: their callers meet it by proof.
 ghost use Rattle.std.specs.Prelude.{◌≡◌, ◌≤◌};
-ghost use Rattle.append.specs.Append.{Appends};
+ghost use Rattle.append.specs.Append.{Puts};
 ghost use Rattle.report_text.specs.Number.{millionths_of, three_of, six_of, minus_text, size_text, rounded_of, real_of};
 
+use append::Text;
 use decimal::fixed::digit;
 
 // |v| in millionths, to the nearest.
@@ -13,57 +14,55 @@ fn millionths(v: f64) -> u64
 }
 
 // The digits of n at 10^(i + 2), 10^(i + 1) and 10^i.
-fn three(n: u64, i: usize, out: &mut [u8], at: usize) -> usize
+fn three(n: u64, i: usize, text: &mut Text<'_>)
     requires { i ≤ 3 }
-    ensures { Appends (three_of n i) at out.old out.new result }
+    ensures { Puts (three_of n i) text.old text.new }
 {
-    append::text(&[digit(n, i + 2), digit(n, i + 1), digit(n, i)], out, at)
+    text.put(&[digit(n, i + 2), digit(n, i + 1), digit(n, i)]);
 }
 
-fn six(n: u64, out: &mut [u8], at: usize) -> usize
-    ensures { Appends (six_of n) at out.old out.new result }
+fn six(n: u64, text: &mut Text<'_>)
+    ensures { Puts (six_of n) text.old text.new }
 {
-    let a = three(n, 3, out, at);
-    three(n, 0, out, a)
+    three(n, 3, text);
+    three(n, 0, text);
 }
 
 // A minus, where what is printed is below zero.
-fn sign(v: f64, n: u64, out: &mut [u8], at: usize) -> usize
-    ensures { Appends (minus_text v n) at out.old out.new result }
+fn sign(v: f64, n: u64, text: &mut Text<'_>)
+    ensures { Puts (minus_text v n) text.old text.new }
 {
     if n != 0 && v < 0.0 {
-        append::text(b"-", out, at)
-    } else {
-        append::nothing(out, at)
+        text.put(b"-");
     }
 }
 
 // n millionths.
-fn size(n: u64, out: &mut [u8], at: usize) -> usize
-    ensures { Appends (size_text n) at out.old out.new result }
+fn size(n: u64, text: &mut Text<'_>)
+    ensures { Puts (size_text n) text.old text.new }
 {
-    let a = append::number(n / 1000000, out, at);
-    let b = append::text(b".", out, a);
-    six(n, out, b)
+    text.put_number(n / 1000000);
+    text.put(b".");
+    six(n, text);
 }
 
-fn rounded(v: f64, out: &mut [u8], at: usize) -> usize
-    ensures { Appends (rounded_of v) at out.old out.new result }
+fn rounded(v: f64, text: &mut Text<'_>)
+    ensures { Puts (rounded_of v) text.old text.new }
 {
     let n = millionths(v);
-    let a = sign(v, n, out, at);
-    size(n, out, a)
+    sign(v, n, text);
+    size(n, text);
 }
 
 // v to six places. NaN and what is too large for that are said so.
-pub fn real(v: f64, out: &mut [u8], at: usize) -> usize
-    ensures { Appends (real_of v) at out.old out.new result }
+pub fn real(v: f64, text: &mut Text<'_>)
+    ensures { Puts (real_of v) text.old text.new }
 {
     if v.is_nan() {
-        append::text(b"not a number", out, at)
+        text.put(b"not a number");
     } else if 1e12 < float::abs(v) {
-        append::text(b"over 1e12 in size", out, at)
+        text.put(b"over 1e12 in size");
     } else {
-        rounded(v, out, at)
+        rounded(v, text);
     }
 }

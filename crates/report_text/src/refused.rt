@@ -1,7 +1,9 @@
 // Why something was refused.
 ghost use Rattle.std.specs.Prelude.{◌≡◌};
-ghost use Rattle.append.specs.Append.{Appends};
+ghost use Rattle.append.specs.Append.{Puts};
 ghost use Rattle.report_text.specs.Sentences.{sentence_of, numbered_of, refusal_line, file_refusal_of, line_text};
+
+use append::Text;
 
 // The sentence of a refusal's number.
 fn words(k: u32) -> &'static [u8]
@@ -30,49 +32,48 @@ fn words(k: u32) -> &'static [u8]
     }
 }
 
-pub fn sentence(k: u32, out: &mut [u8], at: usize) -> usize
-    ensures { Appends (sentence_of k) at out.old out.new result }
+pub fn sentence(k: u32, text: &mut Text<'_>)
+    ensures { Puts (sentence_of k) text.old text.new }
 {
-    append::text(words(k), out, at)
+    text.put(words(k));
 }
 
 // "refusal 4: a moment outside 1957 to 2056" and a line end.
-fn numbered(k: u32, out: &mut [u8], at: usize) -> usize
-    ensures { Appends (numbered_of k) at out.old out.new result }
+fn numbered(k: u32, text: &mut Text<'_>)
+    ensures { Puts (numbered_of k) text.old text.new }
 {
-    let a = append::text(b"refusal ", out, at);
-    let b = append::number(k as u64, out, a);
-    let c = append::text(b": ", out, b);
-    let d = sentence(k, out, c);
-    append::text(b"\n", out, d)
+    text.put(b"refusal ");
+    text.put_number(k as u64);
+    text.put(b": ");
+    sentence(k, text);
+    text.put(b"\n");
 }
 
 // Of a fit.
-pub fn refusal(k: u32, out: &mut [u8], at: usize) -> usize
-    ensures { Appends (refusal_line k) at out.old out.new result }
+pub fn refusal(k: u32, text: &mut Text<'_>)
+    ensures { Puts (refusal_line k) text.old text.new }
 {
-    let a = append::text(b"fit_passes: ", out, at);
-    numbered(k, out, a)
+    text.put(b"fit_passes: ");
+    numbered(k, text);
 }
 
 // "line 12: ", and nothing for line 0.
-fn line(n: usize, out: &mut [u8], at: usize) -> usize
-    ensures { Appends (line_text n) at out.old out.new result }
+fn line(n: usize, text: &mut Text<'_>)
+    ensures { Puts (line_text n) text.old text.new }
 {
-    if n == 0 {
-        return append::nothing(out, at);
+    if n != 0 {
+        text.put(b"line ");
+        text.put_number(n as u64);
+        text.put(b": ");
     }
-    let a = append::text(b"line ", out, at);
-    let b = append::number(n as u64, out, a);
-    append::text(b": ", out, b)
 }
 
 // Of a file, called by its name, at a line, counted from 1; 0 where the refusal belongs to no line.
-pub fn file_refusal(name: &[u8], n: usize, k: u32, out: &mut [u8], at: usize) -> usize
-    ensures { Appends (file_refusal_of name.now n k) at out.old out.new result }
+pub fn file_refusal(name: &[u8], n: usize, k: u32, text: &mut Text<'_>)
+    ensures { Puts (file_refusal_of name.now n k) text.old text.new }
 {
-    let a = append::text(name, out, at);
-    let b = append::text(b": ", out, a);
-    let c = line(n, out, b);
-    numbered(k, out, c)
+    text.put(name);
+    text.put(b": ");
+    line(n, text);
+    numbered(k, text);
 }

@@ -5,4 +5,4 @@ use Rattle.elements_shown.proofs.put_numbers.Goals as goal
 pub returns : goal.returns
 unfolding numbers_line
 returns c =
-    both c.put_item-a.ensures (both c.put_item-b.ensures (both c.put_item-c.ensures (both c.put_item-d.ensures (both c.put_item-f.ensures (both c.number-g.ensures c.text.ensures)))))
+    both c.put_item.ensures (both c.put_item-2.ensures (both c.put_item-3.ensures (both c.put_item-4.ensures (both c.put_item-5.ensures (both c.put_number.ensures c.put.ensures)))))

@@ -3,4 +3,4 @@ use Rattle.replay.proofs.Reporting.{reports}
 use Rattle.replay.proofs.report.Goals as goal
 
 pub returns : goal.returns
-returns c = reports _ _ _ _ (search rules) c.put_report.ensures
+returns c = rw c.len.ensures (reports _ _ (search rules) c.new-text.ensures.begins c.put_report.ensures)

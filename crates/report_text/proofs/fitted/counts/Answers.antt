@@ -5,4 +5,4 @@ use Rattle.report_text.proofs.fitted.counts.Goals as goal
 pub returns : goal.returns
 unfolding counts_of
 returns c =
-    both c.text-a.ensures (both c.number-b.ensures (both c.text-c.ensures (both c.number-d.ensures (both c.text-e.ensures (both c.number-f.ensures c.text.ensures)))))
+    both c.put.ensures (both c.put_number.ensures (both c.put-2.ensures (both c.put_number-2.ensures (both c.put-3.ensures (both c.put_number-3.ensures c.put-4.ensures)))))

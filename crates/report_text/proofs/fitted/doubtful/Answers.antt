@@ -5,4 +5,4 @@ use Rattle.report_text.proofs.fitted.doubtful.Goals as goal
 pub returns : goal.returns
 unfolding ratio_line
 returns c =
-    both c.text-a.ensures (both c.real-b.ensures c.text.ensures)
+    both c.put.ensures (both c.real.ensures c.put-2.ensures)

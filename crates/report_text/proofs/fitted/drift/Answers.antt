@@ -7,4 +7,4 @@ use Rattle.report_text.proofs.fitted.drift.Goals as goal
 pub returns : goal.returns
 unfolding drift_text
 returns c =
-    both c.text-a.ensures (both (scaled _ thousand_bits c.real-b.ensures) (both c.text-c.ensures (both (scaled _ million_bits c.real-d.ensures) c.text.ensures)))
+    both c.put.ensures (both (scaled _ thousand_bits c.real.ensures) (both c.put-2.ensures (both (scaled _ million_bits c.real-2.ensures) c.put-3.ensures)))

@@ -5,4 +5,4 @@ use Rattle.report_text.proofs.fitted.fit.Goals as goal
 pub returns : goal.returns
 unfolding fit_text
 returns c =
-    both c.counts-a.ensures c.sums.ensures
+    both c.counts.ensures c.sums.ensures

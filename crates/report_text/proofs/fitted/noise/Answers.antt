@@ -5,4 +5,4 @@ use Rattle.report_text.proofs.fitted.noise.Goals as goal
 pub returns : goal.returns
 unfolding noise_of
 returns c =
-    both c.text-a.ensures (both c.real-b.ensures (both c.text-c.ensures (both c.real-d.ensures (both c.text-e.ensures c.finding.ensures))))
+    both c.put.ensures (both c.real.ensures (both c.put-2.ensures (both c.real-2.ensures (both c.put-3.ensures c.finding.ensures))))

@@ -5,4 +5,4 @@ use Rattle.report_text.proofs.fitted.pass.Goals as goal
 pub returns : goal.returns
 unfolding pass_line
 returns c =
-    both c.text-a.ensures (both c.text-b.ensures (both c.clock-c.ensures (both c.offset-d.ensures c.drift.ensures)))
+    both c.put.ensures (both c.put-2.ensures (both c.clock.ensures (both c.offset.ensures c.drift.ensures)))

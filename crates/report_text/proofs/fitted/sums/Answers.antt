@@ -5,4 +5,4 @@ use Rattle.report_text.proofs.fitted.sums.Goals as goal
 pub returns : goal.returns
 unfolding sums_of
 returns c =
-    both c.text-a.ensures (both c.real-b.ensures (both c.text-c.ensures (both c.real-d.ensures c.text.ensures)))
+    both c.put.ensures (both c.real.ensures (both c.put-2.ensures (both c.real-2.ensures c.put-3.ensures)))

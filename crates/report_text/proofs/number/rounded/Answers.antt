@@ -3,4 +3,4 @@ use Rattle.report_text.proofs.number.rounded.Goals as goal
 
 pub returns : goal.returns
 returns c =
-    rounded_put c.args.v c.millionths-n.ensures c.sign-a.ensures c.size.ensures
+    rounded_put c.args.v c.millionths-n.ensures c.sign.ensures c.size.ensures

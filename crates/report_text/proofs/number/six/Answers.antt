@@ -5,4 +5,4 @@ use Rattle.report_text.proofs.number.six.Goals as goal
 pub returns : goal.returns
 unfolding six_of
 returns c =
-    both c.three-a.ensures c.three.ensures
+    both c.three.ensures c.three-2.ensures

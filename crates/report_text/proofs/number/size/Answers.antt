@@ -5,4 +5,4 @@ use Rattle.report_text.proofs.number.size.Goals as goal
 pub returns : goal.returns
 unfolding size_text
 returns c =
-    both c.number-a.ensures (both c.text-b.ensures c.six.ensures)
+    both c.put_number.ensures (both c.put.ensures c.six.ensures)

@@ -5,4 +5,4 @@ use Rattle.report_text.proofs.refused.file_refusal.Goals as goal
 pub returns : goal.returns
 unfolding file_refusal_of
 returns c =
-    both c.text-a.ensures (both c.text-b.ensures (both c.line-c.ensures c.numbered.ensures))
+    both c.put.ensures (both c.put-2.ensures (both c.line.ensures c.numbered.ensures))

@@ -5,4 +5,4 @@ use Rattle.report_text.proofs.refused.numbered.Goals as goal
 pub returns : goal.returns
 unfolding numbered_of
 returns c =
-    both c.text-a.ensures (both c.number-b.ensures (both c.text-c.ensures (both c.sentence-d.ensures c.text.ensures)))
+    both c.put.ensures (both c.put_number.ensures (both c.put-2.ensures (both c.sentence.ensures c.put-3.ensures)))

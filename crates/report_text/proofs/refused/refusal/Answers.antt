@@ -5,4 +5,4 @@ use Rattle.report_text.proofs.refused.refusal.Goals as goal
 pub returns : goal.returns
 unfolding refusal_line
 returns c =
-    both c.text-a.ensures c.numbered.ensures
+    both c.put.ensures c.numbered.ensures
