@@ -15,6 +15,7 @@ fn columns(a: usize, b: usize, line: &[u8]) -> &[u8]
     &line[a - 1..b]
 }
 
+#[tactic(auto, unfolding(crate::specs::Agreement::same_columns))]
 fn same_columns(a: usize, b: usize, stored: &[u8], written: &[u8]) -> bool
     requires { (0 < a) × (a ≤ b) × (b ≤ length stored.now) × (b ≤ length written.now) }
     ensures { result ≡ same_columns a b stored.now written.now }
@@ -23,6 +24,7 @@ fn same_columns(a: usize, b: usize, stored: &[u8], written: &[u8]) -> bool
 }
 
 // Whether columns a to b, of an angle, are 360.0000.
+#[tactic(auto, unfolding(crate::specs::Agreement::is_turn))]
 fn is_turn(a: usize, b: usize, line: &[u8]) -> bool
     requires { (0 < a) × (a ≤ b) × (b ≤ length line.now) }
     ensures { result ≡ is_turn a b line.now }
@@ -30,6 +32,7 @@ fn is_turn(a: usize, b: usize, line: &[u8]) -> bool
     answer_lines::begins_with(columns(a, b, line), b"360.0000")
 }
 
+#[tactic(auto, unfolding(crate::specs::Agreement::same_angle))]
 fn same_angle(a: usize, b: usize, stored: &[u8], written: &[u8]) -> bool
     requires { (0 < a) × (a ≤ b) × (b ≤ length stored.now) × (b ≤ length written.now) }
     ensures { result ≡ same_angle a b stored.now written.now }
@@ -47,60 +50,43 @@ fn is_own_sum(line: &[u8]) -> bool
     line[68] == tle::tle_checksum(line) as u8 + 48
 }
 
+#[tactic(auto, unfolding(crate::specs::Agreement::same_sum))]
 fn same_sum(stored: &[u8], written: &[u8]) -> bool
     requires { (69 ≤ length stored.now) × (69 ≤ length written.now) }
     ensures { result ≡ same_sum stored.now written.now }
 {
-    if !is_own_sum(written) {
-        return false;
-    }
-    if is_turn(18, 25, stored) {
-        return true;
-    }
-    if is_turn(44, 51, stored) {
-        return true;
-    }
-    same_columns(69, 69, stored, written)
+    is_own_sum(written)
+        && (is_turn(18, 25, stored)
+            || is_turn(44, 51, stored)
+            || same_columns(69, 69, stored, written))
 }
 
+#[tactic(auto, unfolding(crate::specs::Agreement::same_angles))]
 fn same_angles(stored: &[u8], written: &[u8]) -> bool
     requires { (69 ≤ length stored.now) × (69 ≤ length written.now) }
     ensures { result ≡ same_angles stored.now written.now }
 {
-    if !same_angle(18, 25, stored, written) {
-        return false;
-    }
-    same_angle(44, 51, stored, written)
+    same_angle(18, 25, stored, written) && same_angle(44, 51, stored, written)
 }
 
 // The columns beside the angles and the checksum, and the line feed.
+#[tactic(auto, unfolding(crate::specs::Agreement::same_rest))]
 fn same_rest(stored: &[u8], written: &[u8]) -> bool
     requires { (70 ≤ length stored.now) × (70 ≤ length written.now) }
     ensures { result ≡ same_rest stored.now written.now }
 {
-    if !same_columns(1, 17, stored, written) {
-        return false;
-    }
-    if !same_columns(26, 43, stored, written) {
-        return false;
-    }
-    if !same_columns(52, 68, stored, written) {
-        return false;
-    }
-    same_columns(70, 70, stored, written)
+    same_columns(1, 17, stored, written)
+        && same_columns(26, 43, stored, written)
+        && same_columns(52, 68, stored, written)
+        && same_columns(70, 70, stored, written)
 }
 
+#[tactic(auto, unfolding(crate::specs::Agreement::line2_agrees))]
 fn same_line_2(stored: &[u8], written: &[u8]) -> bool
     requires { (70 ≤ length stored.now) × (70 ≤ length written.now) }
     ensures { result ≡ line2_agrees stored.now written.now }
 {
-    if !same_rest(stored, written) {
-        return false;
-    }
-    if !same_angles(stored, written) {
-        return false;
-    }
-    same_sum(stored, written)
+    same_rest(stored, written) && same_angles(stored, written) && same_sum(stored, written)
 }
 
 // Line 2 is the last 70 bytes of a text.
@@ -135,19 +121,14 @@ fn same_packed(fields: &[u8], n: usize, text: &[u8]) -> bool
 }
 
 // It stands behind its length, 165 bytes at most.
+#[tactic(auto, unfolding(crate::specs::Agreement::stored_agrees))]
 fn same_stored(fields: &[u8], n: usize, text: &[u8]) -> bool
     ensures { result ≡ stored_agrees fields.now n text.now }
 {
-    if answer_lines::field(fields, 0) != n as u64 {
-        return false;
-    }
-    if 165 < n {
-        return false;
-    }
-    if text.len() < n {
-        return false;
-    }
-    same_packed(answer_lines::from(fields, 1), n, text)
+    answer_lines::field(fields, 0) == n as u64
+        && n <= 165
+        && n <= text.len()
+        && same_packed(answer_lines::from(fields, 1), n, text)
 }
 
 // Whether the fields are the lines' refusal, or 0 and a text with which theirs agrees.
