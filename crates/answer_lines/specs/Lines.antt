@@ -1,9 +1,9 @@
 -- A line of stored answers: a word, fields, ` =`, fields. A field is a blank and 16 hexadecimal digits. Definitions only.
 use Rattle.std.specs.Prelude.{ℕ, suc, ◌+◌, ◌-◌, ◌*◌, ◌/◌, ◌%◌, ◌^◌, ◌<◌, ◌≡◌, Bool, true, false, cond, List, [], ◌∷◌, eqb, ltb, length, get_or, take, drop, ℤ, pos, Float}
 use Rattle.std.specs.Float.{nan, binary64}
-use Rattle.std.specs.Float.Ieee.{of_bits, to_bits}
+use Rattle.std.specs.Float.Ieee.{of_bits}
 use Rattle.std.specs.Int.{w64}
-use Rattle.std.proofs.Common.{of_z, to_z}
+use Rattle.std.proofs.Common.{to_z}
 use Rattle.answer_lines.specs.Word.{hex_word_at}
 use Rattle.answer_lines.specs.declared.SetSizes.{SetSizes}
 
@@ -71,37 +71,9 @@ unfoldable pub every : {A : Type 0} → (ℕ → A → Bool) → ℕ → List A 
 every test i [] = true
 every test i (x ∷ l) = cond (test i x) (every test (i + 1) l) false
 
--- the bytes are these
-unfoldable pub byte_items : List ℕ → List ℕ → Bool
-byte_items fields = every (λ i b. eqb b (packed_byte fields i)) 0
-
--- the floats are these: any NaN is any other, and zeros keep their sign
-unfoldable pub float_items : List ℕ → List Float → Bool
-float_items fields = every (λ i v. eqb (to_bits binary64 v) (field_at fields i)) 0
-
-unfoldable pub count_items : List ℕ → List ℕ → Bool
-count_items fields = every (λ i n. eqb n (field_at fields i)) 0
-
--- the numbers are these, by two's complement
-unfoldable pub signed_items : List ℕ → List ℤ → Bool
-signed_items fields = every (λ i t. eqb (of_z w64 t) (field_at fields i)) 0
-
 -- the list at the first field, how many and then each, has n elements, and they pass the test
 unfoldable pub same_list : {A : Type 0} → (List ℕ → List A → Bool) → List ℕ → ℕ → List A → Bool
 same_list items fields n x = cond (eqb (field_at fields 0) n) (cond (ltb (length x) n) false (items (fields_from 1 fields) (take n x))) false
-
--- it has just the first n of these
-abbrev pub same_bytes : List ℕ → ℕ → List ℕ → Bool
-same_bytes = same_list byte_items
-
-abbrev pub same_counts : List ℕ → ℕ → List ℕ → Bool
-same_counts = same_list count_items
-
-abbrev pub same_signed : List ℕ → ℕ → List ℤ → Bool
-same_signed = same_list signed_items
-
-abbrev pub same_floats : List ℕ → ℕ → List Float → Bool
-same_floats = same_list float_items
 
 -- place i of the list has what f says, for each of its places
 pub record FilledBy {A : Type 0} (f : ℕ → A) (none : A) (l : List A) : Type 0 where
