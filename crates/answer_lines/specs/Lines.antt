@@ -1,5 +1,7 @@
 -- A line of stored answers: a word, fields, ` =`, fields. A field is a blank and 16 hexadecimal digits. Definitions only.
-use Rattle.std.specs.Prelude.{ℕ, suc, ◌+◌, ◌-◌, ◌*◌, ◌/◌, ◌%◌, ◌^◌, ◌<◌, ◌≡◌, Bool, true, false, cond, List, [], ◌∷◌, eqb, ltb, length, get_or, take, drop, ℤ, pos, Float}
+use Rattle.std.specs.Prelude.{ℕ, suc, ◌+◌, ◌-◌, ◌*◌, ◌/◌, ◌%◌, ◌^◌, ◌<◌, ◌≡◌, Bool, true, false, cond, List, [], ◌∷◌, eqb, ltb, length, get_or, take, drop, ℤ, pos, Float, Result, Ok, Err}
+use Rattle.refusal.specs.declared.Refusal.{Refusal}
+use Rattle.refusal.specs.Refusals.{number_of}
 use Rattle.std.specs.Float.{nan, binary64}
 use Rattle.std.specs.Float.Ieee.{of_bits}
 use Rattle.std.specs.Int.{w64}
@@ -74,6 +76,11 @@ every test i (x ∷ l) = cond (test i x) (every test (i + 1) l) false
 -- the list at the first field, how many and then each, has n elements, and they pass the test
 unfoldable pub same_list : {A : Type 0} → (List ℕ → List A → Bool) → List ℕ → ℕ → List A → Bool
 same_list items fields n x = cond (eqb (field_at fields 0) n) (cond (ltb (length x) n) false (items (fields_from 1 fields) (take n x))) false
+
+-- a result is what the answer's first field k and a test say: refused by this number, or by 0 accepted with a value that the test is asked of
+abbrev pub Tells : {A : Type 0} → (A → Bool → Type 0) → ℕ → Result A Refusal → Bool → Type 0
+Tells test k (Ok v) b = (k ≡ 0 → test v b) × ((k ≡ 0 → ⊥) → b ≡ false)
+Tells test k (Err r) b = b ≡ eqb k (number_of r)
 
 -- place i of the list has what f says, for each of its places
 pub record FilledBy {A : Type 0} (f : ℕ → A) (none : A) (l : List A) : Type 0 where

@@ -9,10 +9,11 @@ ghost use Rattle.std.specs.Float.{nan, binary64};
 ghost use Rattle.std.specs.Float.Ieee.{to_bits};
 ghost use Rattle.std.specs.Int.{w64};
 ghost use Rattle.std.proofs.Common.{of_z};
-ghost use Rattle.answer_lines.specs.Lines.{first_place, begins_with, line_word, occurs, asked_fields, answer_fields, fields_from, after_list, field_at, float_field, count_field, signed_field, packed_byte, every, same_list, FilledBy, freq_list, ReadsSet};
+ghost use Rattle.answer_lines.specs.Lines.{first_place, begins_with, line_word, occurs, asked_fields, answer_fields, fields_from, after_list, field_at, float_field, count_field, signed_field, packed_byte, every, same_list, Tells, FilledBy, freq_list, ReadsSet};
 
 use frame::Vec3;
 use moment::Moment;
+use refusal::Refusal;
 
 // How many bytes stand before the first `byte`: all, where there is none.
 pub fn find(text: &[u8], byte: u8) -> usize
@@ -145,6 +146,21 @@ pub fn refused(answer: &[u8], refusal: u32) -> bool
     field(answer, 0) == refusal as u64
 }
 
+// Whether an answer is this result: its refusal, or none and a value of which `same` holds.
+pub fn result_is<T: Copy, F: FnOnce(T) -> bool>(
+    answer: &[u8],
+    given: Result<T, Refusal>,
+    same: F,
+) -> bool
+    requires { F.IsAlwaysCallable same }
+    ensures { Tells (F.post same) (field_at answer.now 0) given result }
+{
+    match given {
+        Ok(value) => field(answer, 0) == 0 && same(value),
+        Err(r) => refused(answer, r.number()),
+    }
+}
+
 // What lists of stored answers are of: element i of the fields, and whether a value is that element.
 pub trait Element: Copy {
     // What a list is said to have past its end.
@@ -203,6 +219,27 @@ impl Element for u32 {
         ensures { result ≡ eqb self (field_at fields.now i) }
     {
         self as u64 == field(fields, i)
+    }
+}
+
+// A number, which is all of a field.
+impl Element for u64 {
+    ghost none = { 0 };
+
+    ghost read = { field_at };
+
+    ghost is = { λ fields i n. eqb n (field_at fields i) };
+
+    fn read(fields: &[u8], i: usize) -> u64
+        ensures { result ≡ field_at fields.now i }
+    {
+        field(fields, i)
+    }
+
+    fn is(self, fields: &[u8], i: usize) -> bool
+        ensures { result ≡ eqb self (field_at fields.now i) }
+    {
+        self == field(fields, i)
     }
 }
 

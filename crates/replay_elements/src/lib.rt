@@ -8,18 +8,19 @@ use element_lines::Elements;
 use refusal::Refusal;
 
 fn same(answer: &[u8], read: Result<Elements, Refusal>) -> bool {
-    match read {
-        Ok(e) => {
-            answer_lines::refused(answer, 0)
-                && answer_lines::field(answer, 1) == e.year
-                && answer_lines::field(answer, 2) == e.day
-                && answer_lines::field(answer, 3) == e.inclination
-                && answer_lines::field(answer, 4) == e.node
-                && answer_lines::field(answer, 5) == e.mean_anomaly
-                && answer_lines::field(answer, 6) == e.mean_motion
-        }
-        Err(refusal) => answer_lines::refused(answer, refusal.number()),
-    }
+    answer_lines::result_is(answer, read, |e| same_numbers(answer, e))
+}
+
+fn same_numbers(answer: &[u8], e: Elements) -> bool {
+    let numbers = [
+        e.year,
+        e.day,
+        e.inclination,
+        e.node,
+        e.mean_anomaly,
+        e.mean_motion,
+    ];
+    answer_lines::elements_are(answer_lines::from(answer, 1), &numbers)
 }
 
 // Whether two lines, n1 bytes from the first field of `first` on and n2 of `second`, are read as the answer says.

@@ -8,13 +8,9 @@ use frame::Vec3;
 use refusal::Refusal;
 
 fn same(answer: &[u8], p: Result<Vec3, Refusal>) -> bool {
-    match p {
-        Ok(v) => {
-            answer_lines::refused(answer, 0)
-                && answer_lines::elements_are(answer_lines::from(answer, 1), &[v.x, v.y, v.z])
-        }
-        Err(r) => answer_lines::refused(answer, r.number()),
-    }
+    answer_lines::result_is(answer, p, |v| {
+        answer_lines::elements_are(answer_lines::from(answer, 1), &[v.x, v.y, v.z])
+    })
 }
 
 fn wgs84(asked: &[u8], answer: &[u8]) -> bool {

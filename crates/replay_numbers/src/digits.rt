@@ -1,18 +1,10 @@
 // The generator, the digit maps and the fractional differences.
 use monna::rng::{Draw, SimpleRng};
-use refusal::Refusal;
 
 // Whether the answer is the next state and the number drawn.
 fn same_draw(answer: &[u8], d: Draw) -> bool {
     let next = d.rng;
     answer_lines::field(answer, 0) == next.state && answer_lines::float_is(answer, 1, d.value)
-}
-
-fn same_inverse(answer: &[u8], a: Result<u64, Refusal>) -> bool {
-    match a {
-        Ok(v) => answer_lines::refused(answer, 0) && answer_lines::field(answer, 1) == v,
-        Err(r) => answer_lines::refused(answer, r.number()),
-    }
 }
 
 fn history(asked: &[u8], answer: &[u8]) -> bool {
@@ -21,11 +13,10 @@ fn history(asked: &[u8], answer: &[u8]) -> bool {
     answer_lines::fill(answer_lines::from(asked, 1), &mut room);
     let x = answer_lines::first(&room, answer_lines::field(asked, 0));
     let n = x.len();
-    match monna::compute_fractional_difference_history(x, &mut out) {
-        Ok(()) => answer_lines::refused(answer, 0)
-            && answer_lines::same(answer_lines::from(answer, 1), n, &out),
-        Err(r) => answer_lines::refused(answer, r.number()),
-    }
+    let given = monna::compute_fractional_difference_history(x, &mut out);
+    answer_lines::result_is(answer, given, |()| {
+        answer_lines::same(answer_lines::from(answer, 1), n, &out)
+    })
 }
 
 fn normal(asked: &[u8], answer: &[u8]) -> bool {
@@ -55,7 +46,8 @@ pub(crate) fn agrees(line: &[u8]) -> bool {
     }
     if answer_lines::begins_with(line, b"unmonna ") {
         let x = answer_lines::hex::float(first);
-        return same_inverse(answer, monna::inverse_monna_map(x, second, third as usize));
+        let given = monna::inverse_monna_map(x, second, third as usize);
+        return answer_lines::result_is(answer, given, |v| answer_lines::field(answer, 1) == v);
     }
     if answer_lines::begins_with(line, b"padic ") {
         return crate::same_number(answer, monna::p_adic_distance(first, second, third));

@@ -13,17 +13,9 @@ ghost use Rattle.answer_lines.specs.Lines.{OnlyWords};
 
 use refusal::Refusal;
 
-// Whether the answer is 0 and this float.
-fn given(answer: &[u8], x: f64) -> bool {
-    answer_lines::refused(answer, 0) && answer_lines::float_is(answer, 1, x)
-}
-
 // Whether the answer is this number, or this refusal.
 fn same_number(answer: &[u8], a: Result<f64, Refusal>) -> bool {
-    match a {
-        Ok(x) => given(answer, x),
-        Err(r) => answer_lines::refused(answer, r.number()),
-    }
+    answer_lines::result_is(answer, a, |x| answer_lines::float_is(answer, 1, x))
 }
 
 fn checked(line: &[u8]) -> bool {

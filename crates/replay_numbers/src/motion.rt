@@ -29,15 +29,7 @@ fn prop(asked: &[u8], answer: &[u8]) -> bool {
         answer_lines::moment(answer_lines::from(asked, 6)),
         answer_lines::moment(answer_lines::from(asked, 8)),
     );
-    match a {
-        Ok(s) => {
-            if !answer_lines::refused(answer, 0) {
-                return false;
-            }
-            same_state(answer_lines::from(answer, 1), s)
-        }
-        Err(r) => answer_lines::refused(answer, r.number()),
-    }
+    answer_lines::result_is(answer, a, |s| same_state(answer_lines::from(answer, 1), s))
 }
 
 fn pred(asked: &[u8], answer: &[u8]) -> bool {

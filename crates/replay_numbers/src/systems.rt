@@ -4,11 +4,10 @@ use crate::rooms;
 fn same_solution(matrix: &[f64], vector: &[f64], n: usize, answer: &[u8]) -> bool {
     let mut out = [0.0f64; 68];
     let mut scratch = rooms::elimination();
-    match linear::solve_linear_system(matrix, vector, n, &mut out, &mut scratch) {
-        Ok(()) => answer_lines::refused(answer, 0)
-            && answer_lines::same(answer_lines::from(answer, 1), n, &out),
-        Err(r) => answer_lines::refused(answer, r.number()),
-    }
+    let given = linear::solve_linear_system(matrix, vector, n, &mut out, &mut scratch);
+    answer_lines::result_is(answer, given, |()| {
+        answer_lines::same(answer_lines::from(answer, 1), n, &out)
+    })
 }
 
 // The fields are the list of the right-hand side.
