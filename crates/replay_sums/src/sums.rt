@@ -6,10 +6,9 @@ const PASSES: usize = 20;
 
 const SAMPLES: usize = 64;
 
-// Whether the answer is 0 and these floats.
+// Whether the fields behind the refusal are these floats.
 fn found(answer: &[u8], values: &[f64]) -> bool {
-    answer_lines::refused(answer, 0)
-        && answer_lines::elements_are(answer_lines::from(answer, 1), values)
+    answer_lines::elements_are(answer_lines::from(answer, 1), values)
 }
 
 // The fields before the set are: elements, epoch, receiver.
@@ -22,7 +21,7 @@ fn pca(
     answer: &[u8],
 ) -> bool {
     let mut out = [0i64; PASSES];
-    let found = approach::get_pred_pca_times(
+    let given = approach::get_pred_pca_times(
         answer_lines::float(fields, 0),
         answer_lines::float(fields, 1),
         answer_lines::float(fields, 2),
@@ -35,13 +34,9 @@ fn pca(
         centers,
         &mut out,
     );
-    match found {
-        Ok(()) => {
-            answer_lines::refused(answer, 0)
-                && answer_lines::same(answer_lines::from(answer, 1), counts.len(), &out)
-        }
-        Err(r) => answer_lines::refused(answer, r.number()),
-    }
+    answer_lines::result_is(answer, given, |()| {
+        answer_lines::same(answer_lines::from(answer, 1), counts.len(), &out)
+    })
 }
 
 // The fields after the set are: receiver, elements, epoch, centre.
@@ -66,10 +61,7 @@ fn rss(
         answer_lines::float(fields, 5),
         answer_lines::float(fields, 6),
     );
-    match sum {
-        Ok(rss) => found(answer, &[rss]),
-        Err(r) => answer_lines::refused(answer, r.number()),
-    }
+    answer_lines::result_is(answer, sum, |rss| found(answer, &[rss]))
 }
 
 fn grad(
@@ -93,10 +85,9 @@ fn grad(
         answer_lines::float(fields, 5),
         answer_lines::float(fields, 6),
     );
-    match gradient {
-        Ok(g) => found(answer, &[g.grad_a, g.grad_i, g.grad_raan, g.grad_u0]),
-        Err(r) => answer_lines::refused(answer, r.number()),
-    }
+    answer_lines::result_is(answer, gradient, |g| {
+        found(answer, &[g.grad_a, g.grad_i, g.grad_raan, g.grad_u0])
+    })
 }
 
 // The fields after the set are: receiver, a, i.
@@ -119,10 +110,8 @@ fn search(
         answer_lines::float(fields, 4),
         &mut table,
     );
-    if r.refusal != 0 {
-        return answer_lines::refused(answer, r.refusal);
-    }
-    found(answer, &[r.raan0, r.u0, r.rss])
+    answer_lines::refused(answer, r.refusal)
+        && (r.refusal != 0 || found(answer, &[r.raan0, r.u0, r.rss]))
 }
 
 // The line asked with its set; `rest` are the fields after it.
