@@ -2,13 +2,12 @@
 use crate::{rooms, unpacked};
 use passes::file;
 use passes::file::PassFile;
+use stored::Loaded;
 
 // Whether the list at the first field is the first n of the times, and the one after it the first n of the frequencies.
 fn same_samples(fields: &[u8], n: usize, times: &[i64], freqs: &[f64]) -> bool {
-    if times.len() < n {
-        return false;
-    }
-    answer_lines::same(fields, n, times)
+    n <= times.len()
+        && answer_lines::same(fields, n, times)
         && answer_lines::same(answer_lines::from(fields, 1 + n), n, freqs)
 }
 
@@ -62,15 +61,11 @@ fn read_into(
     freqs: &mut [f64],
     answer: &[u8],
 ) -> bool {
-    let start = 0usize;
-    if (times.len() as u64) < places {
+    if (times.len().min(freqs.len()) as u64) < places {
         return false;
     }
     let n = places as usize;
-    if freqs.len() < n {
-        return false;
-    }
-    let r = file::read_pass_file(bytes, &mut times[start..n], &mut freqs[start..n]);
+    let r = file::read_pass_file(bytes, &mut times[..n], &mut freqs[..n]);
     if !same_record(answer, r) {
         return false;
     }
@@ -85,23 +80,22 @@ fn pass_rule(bytes: &[u8], places: u64, answer: &[u8]) -> bool {
     read_into(bytes, places, &mut times, &mut freqs, answer)
 }
 
+// Whether the fields are: the passes' numbers of samples, times, frequencies.
+fn same_set(fields: &[u8], set: Loaded, counts: &[u32], times: &[i64], freqs: &[f64]) -> bool {
+    let n = set.passes;
+    n <= counts.len()
+        && answer_lines::same(fields, n, counts)
+        && same_samples(answer_lines::from(fields, 1 + n), set.samples, times, freqs)
+}
+
 fn pass_set(bytes: &[u8], answer: &[u8]) -> bool {
     let mut counts = [0u32; 16];
     let mut times = rooms::times();
     let mut freqs = rooms::freqs();
-    let set = match stored::load(bytes, &mut counts, &mut times, &mut freqs) {
-        Ok(set) => set,
-        Err(refusal) => return answer_lines::refused(answer, refusal.number()),
-    };
-    let n = set.passes;
-    if 16 < n || !answer_lines::refused(answer, 0) {
-        return false;
-    }
-    let list = answer_lines::from(answer, 1);
-    if !answer_lines::same(list, n, &counts) {
-        return false;
-    }
-    same_samples(answer_lines::from(list, 1 + n), set.samples, &times, &freqs)
+    let given = stored::load(bytes, &mut counts, &mut times, &mut freqs);
+    answer_lines::result_is(answer, given, |set| {
+        same_set(answer_lines::from(answer, 1), set, &counts, &times, &freqs)
+    })
 }
 
 // The bytes that begin at field k of those asked, where a line of this word has them.

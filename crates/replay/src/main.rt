@@ -50,43 +50,28 @@ fn noted(t: Tally, changed: bool, same: bool) -> Tally
     requires { counted t + 1 < 18446744073709551616 }
     ensures { result ≡ tally_with t changed same }
 {
+    let t = Tally { whole: false, ..t };
     if changed {
         if same {
             return Tally {
-                agreed: t.agreed,
-                differed: t.differed,
-                caught: t.caught,
                 missed: t.missed + 1,
-                ends: t.ends,
-                whole: false,
+                ..t
             };
         }
         return Tally {
-            agreed: t.agreed,
-            differed: t.differed,
             caught: t.caught + 1,
-            missed: t.missed,
-            ends: t.ends,
-            whole: false,
+            ..t
         };
     }
     if same {
         return Tally {
             agreed: t.agreed + 1,
-            differed: t.differed,
-            caught: t.caught,
-            missed: t.missed,
-            ends: t.ends,
-            whole: false,
+            ..t
         };
     }
     Tally {
-        agreed: t.agreed,
         differed: t.differed + 1,
-        caught: t.caught,
-        missed: t.missed,
-        ends: t.ends,
-        whole: false,
+        ..t
     }
 }
 
@@ -97,12 +82,9 @@ fn ended(t: Tally, said: u64) -> Tally
 {
     let before = t.agreed + t.differed + t.caught + t.missed + t.ends;
     Tally {
-        agreed: t.agreed,
-        differed: t.differed,
-        caught: t.caught,
-        missed: t.missed,
         ends: t.ends + 1,
         whole: said == before,
+        ..t
     }
 }
 
