@@ -5,19 +5,19 @@ use mathlib.Core.List.{List}
 use Prim.Native.Nat.{ℕ, ◌-◌, ◌≤◌, ◌<◌, min}
 use native.Mathlib.Nat.{min-eq_left, min-eq_right, le_of_lt, min-le_left, min-le_right, zero-add}
 use native.Mathlib.Omega.{arith}
-use lib.Dec.{T, eqb, ltb, ltb→lt, nltb→le}
+use lib.Dec.{T, ltb, ltb→lt, nltb→le}
 use lib.ListN.{length, take, drop, length-append, length-take, length-drop}
 use lib.Seq.{take_all, length-sets}
-use Rattle.text.specs.Text.{bytes}
+use Rattle.std.proofs.Common.{Option, Some, None, Result, Ok, Err}
 use Rattle.append.specs.declared.Text.{Text}
 use Rattle.append.specs.Append.{Appends, Begins, Puts}
 use Rattle.append.proofs.Appending.{called, alone, numeral_length}
 use Rattle.passes.specs.File as File
 use Rattle.passes.specs.declared.file.PassFile.{PassFile}
-use Rattle.check_line.specs.Check.{name_shown, accepted_line, refused_line, file_line, check_line, Checks}
-
-pub seen : (file : List ℕ) (r : PassFile) {p : List ℕ} {t u : Text} → r.name_seen ≡ true → p ≡ File.name_of file r → Puts p t u → Puts (name_shown file r) t u
-seen file r e f = called (f ∙ sym (ap (λ (t : Bool). cond t (File.name_of file r) (bytes "UNKNOWN")) e))
+use Rattle.passes.specs.declared.pieces.Span.{Span}
+use Rattle.refusal.specs.declared.Refusal.{Refusal}
+use Rattle.refusal.specs.Refusals.{number_of}
+use Rattle.check_line.specs.Check.{part_shown, accepted_line, refused_line, answer_line, file_line, check_line, Checks}
 
 either : (n : ℕ) (t : Bool) (a b : List ℕ) → length a ≤ n → length b ≤ n → length (cond t a b) ≤ n
 either n true a b p q = p
@@ -26,28 +26,31 @@ either n false a b p q = q
 part : (i j : ℕ) (l : List ℕ) → length (take i (drop j l)) ≤ length l
 part i j l = omega (arith, length-take i (drop j l), min-le_right i (length (drop j l)), length-drop j l)
 
-name_length : (file : List ℕ) (r : PassFile) → length (File.name_of file r) ≤ length file
+name_length : (file : List ℕ) (n : Span) → length (File.name_of file n) ≤ length file
 unfolding File.name_of
-name_length file r =
-    either (length file) (ltb (length file) r.name_end) _ _ (omega arith)
-    (either (length file) (ltb r.name_end r.name_start) _ _ (omega arith) (part (r.name_end - r.name_start) r.name_start file))
+name_length file n =
+    either (length file) (ltb (length file) n.end) _ _ (omega arith)
+    (either (length file) (ltb n.end n.start) _ _ (omega arith) (part (n.end - n.start) n.start file))
 
-shown_length : (file : List ℕ) (r : PassFile) → length file ≤ 32768 → length (name_shown file r) ≤ 32768
-shown_length file r h = either 32768 r.name_seen _ _ (omega (arith, name_length file r)) (omega arith)
+part_length : (file : List ℕ) (n : Option Span) → length file ≤ 32768 → length (part_shown file n) ≤ 32768
+part_length file (Some n) h = omega (arith, name_length file n)
+part_length file None h = omega arith
 
 accepted_length : (file : List ℕ) (r : PassFile) → length file ≤ 32768 → length (accepted_line file r) ≤ 32800
 unfolding accepted_line
 accepted_length file r h =
-    simp length-append (omega (arith, shown_length file r h, numeral_length r.count))
+    simp length-append (omega (arith, part_length file r.name h, numeral_length r.count))
 
 refused_length : (k : ℕ) → length (refused_line k) ≤ 32800
 unfolding refused_line
 refused_length k = simp length-append (omega (arith, numeral_length k))
 
+answer_length : (file : List ℕ) (r : Result PassFile Refusal) → length file ≤ 32768 → length (answer_line file r) ≤ 32800
+answer_length file (Ok r) h = accepted_length file r h
+answer_length file (Err k) h = refused_length (number_of k)
+
 line_length : (file : List ℕ) → length file ≤ 32768 → length (file_line file) ≤ 32800
-line_length file h =
-    let r = File.answer file 4096 4096 in
-    either 32800 (eqb r.refusal 0) (accepted_line file r) (refused_line r.refusal) (accepted_length file r h) (refused_length r.refusal)
+line_length file h = answer_length file (File.answer file 4096 4096) h
 
 checked : (file out out' : List ℕ) (n : ℕ) → 32800 ≡ length out → Appends (check_line file) 0 out out' n → Checks file out out' n
 unfolding check_line

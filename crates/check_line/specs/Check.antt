@@ -1,15 +1,22 @@
 -- Document 01's checking program: 'reads one pass file, its first 32 KiB if longer, from standard input and prints name, sample count,
 -- refusal number (0 if none). .. A refusal prints -, 0, its number.'
-use Rattle.std.specs.Prelude.{ℕ, ◌≤◌, ◌≡◌, cond, List, ◌++◌, eqb, length, take}
+use Rattle.std.specs.Prelude.{ℕ, ◌≤◌, ◌≡◌, List, ◌++◌, length, take, Option, Some, None, Result, Ok, Err}
 use Rattle.std.proofs.lemmas.List.Edits.{sets}
 use Rattle.text.specs.Text.{bytes}
 use Rattle.append.specs.Append.{numeral}
 use Rattle.passes.specs.File as File
 use Rattle.passes.specs.declared.file.PassFile.{PassFile}
+use Rattle.passes.specs.declared.pieces.Span.{Span}
+use Rattle.refusal.specs.declared.Refusal.{Refusal}
+use Rattle.refusal.specs.Refusals.{number_of}
 
 -- a name that was not seen prints as UNKNOWN
+abbrev pub part_shown : List ℕ → Option Span → List ℕ
+part_shown file (Some n) = File.name_of file n
+part_shown file None = bytes "UNKNOWN"
+
 abbrev pub name_shown : List ℕ → PassFile → List ℕ
-name_shown file r = cond r.name_seen (File.name_of file r) (bytes "UNKNOWN")
+name_shown file r = part_shown file r.name
 
 unfoldable pub accepted_line : List ℕ → PassFile → List ℕ
 accepted_line file r = name_shown file r ++ (bytes " " ++ (numeral r.count ++ bytes " 0\n"))
@@ -17,8 +24,9 @@ accepted_line file r = name_shown file r ++ (bytes " " ++ (numeral r.count ++ by
 unfoldable pub refused_line : ℕ → List ℕ
 refused_line k = bytes "- 0 " ++ (numeral k ++ bytes "\n")
 
-abbrev pub answer_line : List ℕ → PassFile → List ℕ
-answer_line file r = cond (eqb r.refusal 0) (accepted_line file r) (refused_line r.refusal)
+abbrev pub answer_line : List ℕ → Result PassFile Refusal → List ℕ
+answer_line file (Ok r) = accepted_line file r
+answer_line file (Err k) = refused_line (number_of k)
 
 -- the program has room for 4,096 samples
 abbrev pub file_line : List ℕ → List ℕ

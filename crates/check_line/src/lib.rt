@@ -9,14 +9,15 @@ ghost use Rattle.check_line.specs.Check.{name_shown, accepted_line, refused_line
 use append::Text;
 use passes::file;
 use passes::file::PassFile;
+use refusal::Refusal;
 
 fn name(pass: &[u8], r: PassFile, text: &mut Text<'_>)
     ensures { Puts (name_shown pass.now r) text.old text.new }
 {
-    if r.name_seen {
-        return text.put(file::name(pass, r));
+    match r.name {
+        Some(part) => text.put(file::name(pass, part)),
+        None => text.put(b"UNKNOWN"),
     }
-    text.put(b"UNKNOWN");
 }
 
 fn accepted(pass: &[u8], r: PassFile, text: &mut Text<'_>)
@@ -36,14 +37,13 @@ fn refused(k: u32, text: &mut Text<'_>)
     text.put(b"\n");
 }
 
-fn answer(pass: &[u8], r: PassFile, text: &mut Text<'_>)
+fn answer(pass: &[u8], r: Result<PassFile, Refusal>, text: &mut Text<'_>)
     ensures { Puts (answer_line pass.now r) text.old text.new }
 {
-    let k = r.refusal;
-    if k == 0 {
-        return accepted(pass, r, text);
+    match r {
+        Ok(file) => accepted(pass, file, text),
+        Err(refusal) => refused(refusal.number(), text),
     }
-    refused(k, text);
 }
 
 fn line(pass: &[u8], text: &mut Text<'_>)

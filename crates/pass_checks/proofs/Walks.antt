@@ -10,14 +10,15 @@ use lib.IntN.{ℤ, pos, negsuc}
 use Rattle.std.proofs.Common.{arith, int_eq}
 use Rattle.std.proofs.lemmas.Bool.Decides.{nat_tests, Decides-int_eq}
 use lib.Ieee.{Float, eq}
-use Rattle.std.specs.Prelude.{Some}
+use Rattle.std.specs.Prelude.{Some, None, Result, Ok, Err}
 use Rattle.std.specs.List.{find, range_with_len}
 use Rattle.std.specs.Cmp.Lexicographic.{pointwise}
-use Rattle.laws.proofs.Tests.{and_then}
 use Rattle.pass_set.specs.PassSet.{count_of, pass_of}
 use Rattle.passes.specs.File.{answer, name_of}
+use Rattle.passes.specs.declared.pieces.Span.{Span}
 use Rattle.passes.specs.declared.file.PassFile.{PassFile}
-use Rattle.pass_checks.specs.Checks.{first_of, same, level, alike, named_other, other_name}
+use Rattle.refusal.specs.declared.Refusal.{Refusal}
+use Rattle.pass_checks.specs.Checks.{first_of, same, level, alike, part_other, named_other, other_name}
 
 -- ---- the first number that passes a test, and lists alike, in the library's words
 
@@ -61,14 +62,19 @@ level_is t u =
 
 -- ---- whether a file has another name
 
-module _ (name file : List ℕ) {r : PassFile} (e : r ≡ answer file 4096 4096) where
-  pub no_name : r.name_seen ≡ false → false ≡ other_name name file
-  unfolding other_name named_other
-  no_name h = rw (← e, h)
+module _ (name file : List ℕ) {r : Result PassFile Refusal} (e : r ≡ answer file 4096 4096) where
+  pub no_file : {k : Refusal} → r ≡ Err k → false ≡ other_name name file
+  unfolding other_name
+  no_file g = ap (named_other name file) (sym g ∙ e)
 
-  pub another : {n : List ℕ} {b : Bool} → r.name_seen ≡ true → n ≡ name_of file r → b ≡ same eqb name n → not b ≡ other_name name file
-  unfolding other_name named_other
-  another h k g = ap not (g ∙ ap (same eqb name) k) ∙ and_then r.name_seen (not (same eqb name (name_of file r))) h ∙ ap (named_other name file) e
+  module _ {q : PassFile} (g : r ≡ Ok q) where
+    pub no_name : q.name ≡ None → false ≡ other_name name file
+    unfolding other_name
+    no_name h = sym (ap (part_other name file) h) ∙ ap (named_other name file) (sym g ∙ e)
+
+    pub another : {n : Span} {m : List ℕ} {b : Bool} → q.name ≡ Some n → m ≡ name_of file n → b ≡ same eqb name m → not b ≡ other_name name file
+    unfolding other_name
+    another h k i = ap not (i ∙ ap (same eqb name) k) ∙ sym (ap (part_other name file) h) ∙ ap (named_other name file) (sym g ∙ e)
 
 -- ---- whether two passes are alike
 

@@ -1,11 +1,13 @@
 -- What is told of a pass set that is no refusal of it, and which pass a refusal is of.
-use Rattle.std.specs.Prelude.{◌≡◌, Bool, true, false, not, cond, ◌&&◌, List, [], ◌∷◌, ℕ, zero, suc, ◌≤◌, eqb, ℤ, Float, length, Option, Some, None}
+use Rattle.std.specs.Prelude.{◌≡◌, Bool, true, false, not, cond, ◌&&◌, List, [], ◌∷◌, ℕ, zero, suc, ◌≤◌, eqb, ℤ, Float, length, Option, Some, None, Result, Ok, Err}
 use Rattle.std.specs.Int.Signed.{lt_z}
 use Rattle.std.specs.Float.Ieee.{eq}
 use Rattle.pass_set.specs.PassSet.{total, count_of, pass_of}
 use Rattle.arguments.specs.Refusals.{any_nan}
 use Rattle.passes.specs.File.{answer, name_of}
 use Rattle.passes.specs.declared.file.PassFile.{PassFile}
+use Rattle.passes.specs.declared.pieces.Span.{Span}
+use Rattle.refusal.specs.declared.Refusal.{Refusal}
 
 -- the first of n numbers from p on that passes the test
 unfoldable pub first_of : (ℕ → Bool) → ℕ → ℕ → Option ℕ
@@ -43,8 +45,13 @@ pub record Whole (counts : List ℕ) (samples : ℕ) : Type 0 where
   pub whole : total counts ≡ samples
 
 -- a file that was read so has a name, and another than this
-unfoldable pub named_other : List ℕ → List ℕ → PassFile → Bool
-named_other name file r = r.name_seen && not (same eqb name (name_of file r))
+abbrev pub part_other : List ℕ → List ℕ → Option Span → Bool
+part_other name file (Some n) = not (same eqb name (name_of file n))
+part_other name file None = false
+
+abbrev pub named_other : List ℕ → List ℕ → Result PassFile Refusal → Bool
+named_other name file (Ok r) = part_other name file r.name
+named_other name file (Err k) = false
 
 -- of a file with room for 4,096 samples, which is what a pass set takes; a refused file has no name
 unfoldable pub other_name : List ℕ → List ℕ → Bool

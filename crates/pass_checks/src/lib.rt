@@ -50,6 +50,11 @@ pub fn is_other_name(name: &[u8], file: &[u8]) -> bool
 {
     let mut times = [0i64; 4096];
     let mut freqs = [0.0f64; 4096];
-    let r = file::read_pass_file(file, &mut times, &mut freqs);
-    r.name_seen && name != file::name(file, r)
+    let Ok(r) = file::read_pass_file(file, &mut times, &mut freqs) else {
+        return false;
+    };
+    match r.name {
+        Some(part) => name != file::name(file, part),
+        None => false,
+    }
 }

@@ -21,7 +21,7 @@ use Rattle.rfc3339.specs.Rfc3339.{date_time_of}
 use Rattle.rfc3339.specs.declared.Timestamp.{Timestamp}
 use Rattle.passes.specs.Text.{Placed, push, starts_lf, lines, blank, blanks, keep_trimmed, trim_end, trim, until, ascii}
 use Rattle.passes.specs.Line.{part, inside, since1970, sample_of, pair_of, fields, sample, center_line, named, header, trimmed_line, line_of}
-use Rattle.passes.specs.File.{opening, zeros, advance, after, scanned, pass_file_refusal, answer, name_of, Reads}
+use Rattle.passes.specs.File.{opening, advance, advanced, after, scanned, room_refusal, with_room, answer, name_of, Reads}
 use Rattle.passes.specs.Called.{value_of, headed, called_in, later, last_called, part_of}
 use Rattle.passes.specs.declared.line.Line.{Line}
 use Rattle.passes.specs.declared.line.Line.TheVariants.{Skipped, Name, Center, Sample}
@@ -29,6 +29,8 @@ use Rattle.refusal.specs.declared.Refusal.{Refusal}
 use Rattle.refusal.specs.declared.Refusal.TheVariants.{NonAscii, LongLine, NumberSize, MomentRange}
 use Rattle.passes.specs.declared.file.PassFile.{PassFile}
 use Rattle.passes.proofs.Names.{blanks_most, end_most, until_most}
+use Rattle.passes.proofs.Files.{after_stop, never_both, same_ok}
+use Rattle.refusal.specs.Refusals.{answer as unless}
 
 -- ---- parts: v stands in l at s
 
@@ -236,48 +238,46 @@ placed file at (c ∷ l) f = go (eqb c 10) (eqb c 13) (starts_lf l) refl (placed
 -- ---- all lines
 
 module _ (file : List ℕ) where
-  tells_next : (p : PassFile) (at : ℕ) (b : List ℕ) (x : Result Line Refusal) (n m : Option (List ℕ)) → Part file at b → Tells b x n → part_of file p ≡ m → part_of file (advance p at x) ≡ later n m
+  tells_next : (p : PassFile) (at : ℕ) (b : List ℕ) (x : Line) (n m : Option (List ℕ)) → Part file at b → Tells b (Ok x) n → part_of file p ≡ m → part_of file (advance p at x) ≡ later n m
   unfolding name_of
-  tells_next p at b (Ok Skipped) n m q t h = subst (λ (k : Option (List ℕ)). part_of file p ≡ later k m) (sym t) h
-  tells_next p at b (Err r) n m q t h = subst (λ (k : Option (List ℕ)). part_of file p ≡ later k m) (sym t) h
-  tells_next p at b (Ok (Name o)) n m q t h =
+  tells_next p at b Skipped n m q t h = subst (λ (k : Option (List ℕ)). part_of file p ≡ later k m) (sym t) h
+  tells_next p at b (Name o) n m q t h =
       let v = t.0 in
       let w = part_join q t.2 in
       let i = w.inside in
       let f = t.3 in
       let d : at + o.end - (at + o.start) ≡ length v = omega arith in
       simp (le-ltb (length file) (at + o.end) (omega arith), le-ltb (at + o.end) (at + o.start) (omega arith), d, w.is, t.1)
-  tells_next p at b (Ok (Center f)) n m q t h = subst (λ (k : Option (List ℕ)). part_of file p ≡ later k m) (sym t) h
-  tells_next p at b (Ok (Sample u f)) n m q t h = subst (λ (k : Option (List ℕ)). part_of file p ≡ later k m) (sym t) h
+  tells_next p at b (Center f) n m q t h = subst (λ (k : Option (List ℕ)). part_of file p ≡ later k m) (sym t) h
+  tells_next p at b (Sample u f) n m q t h = subst (λ (k : Option (List ℕ)). part_of file p ≡ later k m) (sym t) h
 
-  tells_all : (p : PassFile) (ls : List Placed) (m : Option (List ℕ)) → All file ls → part_of file p ≡ m → (after p ls).refusal ≡ 0 → part_of file (after p ls) ≡ last_called m ls
+  tells_all : (p : PassFile) (ls : List Placed) (m : Option (List ℕ)) {r : PassFile} → All file ls → part_of file p ≡ m → after (Ok p) ls ≡ Ok r → part_of file r ≡ last_called m ls
   unfolding after last_called
-  tells_all p [] m a h e = h
-  tells_all p (l ∷ ls) m (more q a) h e =
-      go (eqb p.refusal 0) refl
-      (tells_all (advance p l.at (line_of l.bytes)) ls (later (called_in l.bytes) m) a (tells_next p l.at l.bytes (line_of l.bytes) (called_in l.bytes) m q (line_tells l.bytes) h)) e
+  tells_all p [] m a h e = subst (λ (q : PassFile). part_of file q ≡ m) (same_ok e) h
+  tells_all p (l ∷ ls) m {r = r} (more q a) h e = go (line_of l.bytes) (line_tells l.bytes) (λ n k. tells_all n ls k a) e
     where
-      go : (b : Bool) → eqb p.refusal 0 ≡ b
-          → ((after (advance p l.at (line_of l.bytes)) ls).refusal ≡ 0 → part_of file (after (advance p l.at (line_of l.bytes)) ls) ≡ last_called (later (called_in l.bytes) m) ls)
-          → (cond b (after (advance p l.at (line_of l.bytes)) ls) p).refusal ≡ 0
-          → part_of file (cond b (after (advance p l.at (line_of l.bytes)) ls) p) ≡ last_called (later (called_in l.bytes) m) ls
-      go true z ih g = ih g
-      go false z ih g = absurd (eqb-false p.refusal 0 z g)
+      go : (x : Result Line Refusal) → Tells l.bytes x (called_in l.bytes)
+          → ((n : PassFile) (k : Option (List ℕ)) → part_of file n ≡ k → after (Ok n) ls ≡ Ok r → part_of file r ≡ last_called k ls)
+          → after (advanced p l.at x) ls ≡ Ok r → part_of file r ≡ last_called (later (called_in l.bytes) m) ls
+      go (Ok x) t ih f = ih (advance p l.at x) (later (called_in l.bytes) m) (tells_next p l.at l.bytes x (called_in l.bytes) m q t h) f
+      go (Err k) t ih f = never_both (sym (after_stop k ls) ∙ f)
 
-  scanned_name : (scanned file).refusal ≡ 0 → part_of file (scanned file) ≡ last_called none (lines 0 file)
+  scanned_name : {r : PassFile} → scanned file ≡ Ok r → part_of file r ≡ last_called none (lines 0 file)
   unfolding opening
   scanned_name e = tells_all opening (lines 0 file) none (placed file 0 file (record { long = omega arith; is = refl })) refl e
 
   -- the theorem
-  pub name_part : (nt nf : ℕ) → (answer file nt nf).refusal ≡ 0 → part_of file (answer file nt nf) ≡ last_called none (lines 0 file)
-  unfolding answer zeros
-  name_part nt nf e = go (pass_file_refusal (scanned file) nt nf) (eqb (pass_file_refusal (scanned file) nt nf) 0) refl e
+  pub name_part : (nt nf : ℕ) (r : PassFile) → answer file nt nf ≡ Ok r → part_of file r ≡ last_called none (lines 0 file)
+  name_part nt nf r e = go (scanned file) refl e
     where
-      go : (k : ℕ) (b : Bool) → eqb k 0 ≡ b → (cond b (scanned file) (zeros k)).refusal ≡ 0 → part_of file (cond b (scanned file) (zeros k)) ≡ last_called none (lines 0 file)
-      go k true h f = scanned_name f
-      go k false h f = absurd (eqb-false k 0 h f)
+      taken : (p : PassFile) (o : Answer Refusal) → scanned file ≡ Ok p → unless o p ≡ Ok r → part_of file r ≡ last_called none (lines 0 file)
+      taken p None g f = subst (λ (q : PassFile). part_of file q ≡ last_called none (lines 0 file)) (same_ok f) (scanned_name g)
+      taken p (Some k) g f = never_both f
+
+      go : (x : Result PassFile Refusal) → scanned file ≡ x → with_room nt nf x ≡ Ok r → part_of file r ≡ last_called none (lines 0 file)
+      go (Ok p) g f = taken p (room_refusal p nt nf) g f
+      go (Err k) g f = never_both f
 
 -- so for what `read_pass_file` promises
-pub name_read : {file : List ℕ} {times times' : List ℤ} {freqs freqs' : List Float} {r : PassFile} → Reads file times times' freqs freqs' r → r.refusal ≡ 0 → part_of file r ≡ last_called none (lines 0 file)
-name_read {file = file} {times = times} {freqs = freqs} h e =
-    ap (part_of file) h.says ∙ name_part file (length times) (length freqs) (sym (ap (λ (p : PassFile). p.refusal) h.says) ∙ e)
+pub name_read : {file : List ℕ} {times times' : List ℤ} {freqs freqs' : List Float} {r : PassFile} → Reads file times times' freqs freqs' (Ok r) → part_of file r ≡ last_called none (lines 0 file)
+name_read {file = file} {times = times} {freqs = freqs} {r = r} h = name_part file (length times) (length freqs) r (sym h.says)

@@ -1,21 +1,18 @@
 -- The lines of a file one after the other: what is left to read and to store. Assumes nothing.
 use mathlib.Core.Path.{◌≡◌, refl, sym, ap, ◌∙◌, subst}
-use mathlib.Core.Bool.{Bool, true, false, cond}
 use mathlib.Core.List.{List, [], ◌∷◌, ◌++◌}
 use Prim.Native.Nat.{ℕ, ◌+◌, ◌-◌, ◌≤◌, ◌<◌}
 use native.Mathlib.Nat.{add-zero}
 use native.Mathlib.Numerals.{add-one}
 use native.Mathlib.Omega.{arith}
 use Rattle.std.proofs.Common.{Result, Ok, Err}
-use lib.Dec.{eqb}
 use lib.IntN.{ℤ}
 use lib.Ieee.{Float}
 use lib.ListN.{length, take, drop, set, drop_of_length-le, length-drop}
 use lib.Seq.{sets, sets-eq, length-sets, drop-drop, length-take-le, take-append_seam}
-use borrow.Author.Tests.{eq-eqb, ne_eqb, eqb-false}
 use Rattle.passes.specs.Text.{Placed, lines, Cut}
 use Rattle.passes.specs.Line.{line_of}
-use Rattle.passes.specs.File.{opening, advance, after, time_before, freq_before, times_of, freqs_of, scanned, BeforeLine, Stepped, Stored, Scan}
+use Rattle.passes.specs.File.{opening, advance, advanced, after, time_before, freq_before, times_of, freqs_of, scanned, BeforeLine, Stepped, Scan}
 use Rattle.passes.specs.declared.line.Line.{Line}
 use Rattle.passes.specs.declared.pieces.Span.{Span}
 use Rattle.passes.specs.declared.line.Line.TheVariants.{Skipped, Name, Center, Sample}
@@ -48,13 +45,6 @@ line_at file at n next h c =
           ∙ ap (λ (l : List ℕ). record { at = at; bytes = take n (drop at file) } ∷ lines (at + next) l) (drop-drop next at file);
     }
 
--- ---- one line's step
-pub stepped : {file : List ℕ} {at n : ℕ} {s r : PassFile} {x y : Result Line Refusal} {times times' : List ℤ} {freqs freqs' : List Float} → x ≡ line_of (take (at + n - at) (drop at file))
-    → Stored x s.count times times' freqs freqs' → x ≡ y → r ≡ advance s at y → r.count ≤ s.count + 1 → Stepped file at n s times times' freqs freqs' r
-stepped {file = file} {at = at} {n = n} {s = s} {times = times} {times' = times'} {freqs = freqs} {freqs' = freqs'} e d g h k =
-    let f = e ∙ ap line_of (same_line file at n) in
-    record { is = h ∙ ap (advance s at) (sym g ∙ f); count = k; stored = subst (λ (z : Result Line Refusal). Stored z s.count times times' freqs freqs') f d }
-
 -- the places of a name that a line has
 pub name_in : (file : List ℕ) (at n : ℕ) {x : Result Line Refusal} {y : Line} {p : Span} → at + n ≤ length file → x ≡ line_of (take (at + n - at) (drop at file)) → x ≡ Ok y → y ≡ Name p → (at + p.start ≤ length file) × (at + p.end ≤ length file)
 name_in file at n {x} {y} {p} room e g o =
@@ -66,59 +56,83 @@ name_in file at n {x} {y} {p} room e g o =
     (omega arith, omega arith)
 
 -- ---- the lines' state
-after_next : (p : PassFile) (l : Placed) (ls : List Placed) → p.refusal ≡ 0 → after p (l ∷ ls) ≡ after (advance p l.at (line_of l.bytes)) ls
+after_next : (p : PassFile) (l : Placed) (ls : List Placed) → after (Ok p) (l ∷ ls) ≡ after (advanced p l.at (line_of l.bytes)) ls
 unfolding after
-after_next p l ls e = simp (eq-eqb p.refusal 0 e)
+after_next p l ls = refl
 
-after_stop : (p : PassFile) (ls : List Placed) → (p.refusal ≡ 0 → ⊥) → after p ls ≡ p
+pub after_stop : (k : Refusal) (ls : List Placed) → after (Err k) ls ≡ Err k
 unfolding after
-after_stop p [] e = refl
-after_stop p (l ∷ ls) e = simp (ne_eqb p.refusal 0 e)
+after_stop k [] = refl
+after_stop k (l ∷ ls) = refl
 
-after_none : (p : PassFile) → after p [] ≡ p
+after_none : (p : PassFile) → after (Ok p) [] ≡ Ok p
 unfolding after
 after_none p = refl
+
+-- no answer is both a refusal and a value, and a value is one
+module _ {T : Type 0} where
+  pub never_both : {A : Type 0} {k : Refusal} {p : T} → ◌≡◌ {A = Result T Refusal} (Err k) (Ok p) → A
+  never_both e = let z : ◌≡◌ {A = ℕ} 0 1 = cc in absurd (omega arith)
+
+  pub same_ok : {p q : T} → ◌≡◌ {A = Result T Refusal} (Ok p) (Ok q) → p ≡ q
+  same_ok e = cc
+
+-- how many samples a line brings
+count_next : (p : PassFile) {q : PassFile} (at : ℕ) (x : Result Line Refusal) → advanced p at x ≡ Ok q → q.count ≡ p.count + length (time_before x [])
+count_next p at (Ok x) e = sym (ap (λ (f : PassFile). f.count) (same_ok e)) ∙ line_count p at x
+  where
+    line_count : (p : PassFile) (at : ℕ) (x : Line) → (advance p at x).count ≡ p.count + length (time_before (Ok x) [])
+    line_count p at Skipped = omega arith
+    line_count p at (Name n) = omega arith
+    line_count p at (Center f) = omega arith
+    line_count p at (Sample t f) = omega arith
+count_next p at (Err r) e = never_both e
+
+at_most_one : (x : Result Line Refusal) → length (time_before x []) ≤ 1
+at_most_one (Ok Skipped) = omega arith
+at_most_one (Err r) = omega arith
+at_most_one (Ok (Name n)) = omega arith
+at_most_one (Ok (Center f)) = omega arith
+at_most_one (Ok (Sample t f)) = omega arith
 
 -- what is left to read gives the whole
 pub record Scanned (file : List ℕ) (at : ℕ) (s : PassFile) : Type 0 where
   pub inside : at ≤ length file
   pub count : s.count ≤ at
-  pub good : s.refusal ≡ 0
-  pub left : after s (lines at (drop at file)) ≡ scanned file
+  pub left : after (Ok s) (lines at (drop at file)) ≡ scanned file
 
 scan_start : {file : List ℕ} {s : PassFile} → s ≡ opening → Scanned file 0 s
 unfolding opening
 scan_start {file = file} {s = s} h =
     let k : s.count ≡ 0 = ap (λ (p : PassFile). p.count) h in
-    record { inside = omega arith; count = omega arith; good = ap (λ (p : PassFile). p.refusal) h; left = ap (λ (p : PassFile). after p (lines 0 file)) h }
+    record { inside = omega arith; count = omega arith; left = ap (λ (p : PassFile). after (Ok p) (lines 0 file)) h }
 
-module _ {file : List ℕ} {at n next : ℕ} {s r : PassFile} {times times' : List ℤ} {freqs freqs' : List Float} (a : Scanned file at s) (l : LineAt file at n next) (t : Stepped file at n s times times' freqs freqs' r) where
+module _ {file : List ℕ} {at n next : ℕ} {s : PassFile} {r : Result PassFile Refusal} {times times' : List ℤ} {freqs freqs' : List Float} (a : Scanned file at s) (l : LineAt file at n next) (t : Stepped file at n s times times' freqs freqs' r) where
   moved : after r (lines (at + next) (drop (at + next) file)) ≡ scanned file
   moved =
-      ap (λ (p : PassFile). after p (lines (at + next) (drop (at + next) file))) t.is
-      ∙ sym (after_next s (record { at = at; bytes = take n (drop at file) }) (lines (at + next) (drop (at + next) file)) a.good)
-      ∙ ap (after s) (sym l.is)
+      ap (λ (p : Result PassFile Refusal). after p (lines (at + next) (drop (at + next) file))) t.is
+      ∙ sym (after_next s (record { at = at; bytes = take n (drop at file) }) (lines (at + next) (drop (at + next) file)))
+      ∙ ap (after (Ok s)) (sym l.is)
       ∙ a.left
 
-  scan_more : r.refusal ≡ 0 → Scanned file (at + next) r
+  scan_more : {q : PassFile} → r ≡ Ok q → Scanned file (at + next) q
   scan_more g =
       let ac = a.count in
-      let tc = t.count in
+      let tc = count_next s at (line_of (take n (drop at file))) (sym t.is ∙ g) in
+      let one = at_most_one (line_of (take n (drop at file))) in
       let lm = l.more in
-      record { inside = l.inside; count = omega arith; good = g; left = moved }
+      record { inside = l.inside; count = omega arith; left = ap (λ (p : Result PassFile Refusal). after p (lines (at + next) (drop (at + next) file))) (sym g) ∙ moved }
 
-  scan_refused : (r.refusal ≡ 0 → ⊥) → r ≡ scanned file
-  scan_refused g = sym (after_stop r (lines (at + next) (drop (at + next) file)) g) ∙ moved
+  scan_refused : {k : Refusal} → r ≡ Err k → Err k ≡ scanned file
+  scan_refused {k = k} g =
+      sym (after_stop k (lines (at + next) (drop (at + next) file))) ∙ ap (λ (p : Result PassFile Refusal). after p (lines (at + next) (drop (at + next) file))) (sym g) ∙ moved
 
-scan_end : {file : List ℕ} {at : ℕ} {s : PassFile} → Scanned file at s → length file ≤ at → s ≡ scanned file
+scan_end : {file : List ℕ} {at : ℕ} {s : PassFile} → Scanned file at s → length file ≤ at → Ok s ≡ scanned file
 unfolding lines
 scan_end {file = file} {at = at} {s = s} a h =
-    sym (after_none s) ∙ ap (λ (l : List ℕ). after s (lines at l)) (sym (drop_of_length-le file h)) ∙ a.left
+    sym (after_none s) ∙ ap (λ (l : List ℕ). after (Ok s) (lines at l)) (sym (drop_of_length-le file h)) ∙ a.left
 
 -- ---- the samples' places
-pub store_same : {x y : Result Line Refusal} {k : ℕ} {times times' : List ℤ} {freqs freqs' : List Float} → x ≡ y → Stored y k times times' freqs freqs' → Stored x k times times' freqs freqs'
-store_same {k = k} {times = t} {times' = t'} {freqs = f} {freqs' = f'} e h = subst (λ (z : Result Line Refusal). Stored z k t t' f f') (sym e) h
-
 time_length : (x : Result Line Refusal) (ts : List ℤ) → length (time_before x ts) ≡ length (time_before x []) + length ts
 time_length (Ok Skipped) ts = omega arith
 time_length (Err r) ts = omega arith
@@ -147,13 +161,6 @@ freq_join (Ok (Name n)) l k fs = ap (λ (m : ℕ). sets l m fs) (sym (add-zero k
 freq_join (Ok (Center f)) l k fs = ap (λ (m : ℕ). sets l m fs) (sym (add-zero k))
 freq_join (Ok (Sample t f)) l k fs = ap (λ (m : ℕ). sets (set l k f) m fs) (sym (add-one k))
 
-count_next : (p : PassFile) (v : ℕ) (x : Result Line Refusal) → (advance p v x).count ≡ p.count + length (time_before x [])
-count_next p v (Ok Skipped) = omega arith
-count_next p v (Err r) = omega arith
-count_next p v (Ok (Name n)) = omega arith
-count_next p v (Ok (Center f)) = omega arith
-count_next p v (Ok (Sample t f)) = omega arith
-
 -- what is left to read and to store gives the whole
 pub record Scanning (file : List ℕ) (times₀ : List ℤ) (freqs₀ : List Float) (at : ℕ) (s : PassFile) (times : List ℤ) (freqs : List Float) : Type 0 where
   pub read : Scanned file at s
@@ -178,44 +185,41 @@ scanning_start {file = file} {times = times} {freqs = freqs} h e =
 pub scanning_ready : {file : List ℕ} {times₀ times : List ℤ} {freqs₀ freqs : List Float} {at n next : ℕ} {s : PassFile} → Scanning file times₀ freqs₀ at s times freqs → LineAt file at n next → BeforeLine file at n s times freqs
 scanning_ready a l = let i = l.inside in let z = l.size in record { room = omega arith; count = a.read.count; same = a.same }
 
-module _ {file : List ℕ} {times₀ times times' : List ℤ} {freqs₀ freqs freqs' : List Float} {at n next : ℕ} {s r : PassFile}
+module _ {file : List ℕ} {times₀ times times' : List ℤ} {freqs₀ freqs freqs' : List Float} {at n next : ℕ} {s : PassFile} {r : Result PassFile Refusal}
     (a : Scanning file times₀ freqs₀ at s times freqs) (l : LineAt file at n next) (t : Stepped file at n s times times' freqs freqs' r) where
-  pub kept_times : length times' ≡ length times₀
+  kept_times : length times' ≡ length times₀
   kept_times = ap length t.stored.put_times ∙ length-sets times s.count (time_before (line_of (take n (drop at file))) []) ∙ a.long_times
 
-  pub kept_freqs : length freqs' ≡ length freqs₀
+  kept_freqs : length freqs' ≡ length freqs₀
   kept_freqs = ap length t.stored.put_freqs ∙ length-sets freqs s.count (freq_before (line_of (take n (drop at file))) []) ∙ a.long_freqs
 
-  -- the next sample's place
-  next_place : r.count ≡ s.count + length (time_before (line_of (take n (drop at file))) [])
-  next_place = ap (λ (p : PassFile). p.count) t.is ∙ count_next s at (line_of (take n (drop at file)))
-
-  pub scanning_more : r.refusal ≡ 0 → Scanning file times₀ freqs₀ (at + next) r times' freqs'
+  pub scanning_more : {q : PassFile} → r ≡ Ok q → Scanning file times₀ freqs₀ (at + next) q times' freqs'
   unfolding times_of freqs_of
   scanning_more g =
       let x = line_of (take n (drop at file)) in
       let k = s.count in
+      let place = count_next s at x (sym t.is ∙ g) in
       let ts = times_of (lines (at + next) (drop (at + next) file)) in
       let fs = freqs_of (lines (at + next) (drop (at + next) file)) in
       record {
         read = scan_more a.read l t g;
-        left_times = (λ z. sets (t.stored.put_times z) (next_place z) ts) ∙ sym (time_join x times k ts) ∙ ap (λ (ls : List Placed). sets times k (times_of ls)) (sym l.is) ∙ a.left_times;
-        left_freqs = (λ z. sets (t.stored.put_freqs z) (next_place z) fs) ∙ sym (freq_join x freqs k fs) ∙ ap (λ (ls : List Placed). sets freqs k (freqs_of ls)) (sym l.is) ∙ a.left_freqs;
+        left_times = (λ z. sets (t.stored.put_times z) (place z) ts) ∙ sym (time_join x times k ts) ∙ ap (λ (ls : List Placed). sets times k (times_of ls)) (sym l.is) ∙ a.left_times;
+        left_freqs = (λ z. sets (t.stored.put_freqs z) (place z) fs) ∙ sym (freq_join x freqs k fs) ∙ ap (λ (ls : List Placed). sets freqs k (freqs_of ls)) (sym l.is) ∙ a.left_freqs;
         same = let p = kept_times in let q = kept_freqs in let u = a.same in let v = a.long_times in let w = a.long_freqs in omega arith;
         long_times = kept_times;
         long_freqs = kept_freqs;
       }
 
-  pub scanning_refused : (r.refusal ≡ 0 → ⊥) → Scan file times₀ times' freqs₀ freqs' r
-  scanning_refused g = record { says = scan_refused a.read l t g; put_times = λ (z : r.refusal ≡ 0). absurd (g z); put_freqs = λ (z : r.refusal ≡ 0). absurd (g z) }
+  pub scanning_refused : {k : Refusal} {z : Result PassFile Refusal} → r ≡ Err k → z ≡ Err k → Scan file times₀ times' freqs₀ freqs' z
+  scanning_refused g e = record { says = e ∙ scan_refused a.read l t g; put_times = λ p z. never_both (sym e ∙ z); put_freqs = λ p z. never_both (sym e ∙ z) }
 
-pub scanning_end : {file : List ℕ} {times₀ times : List ℤ} {freqs₀ freqs : List Float} {at : ℕ} {s : PassFile} → Scanning file times₀ freqs₀ at s times freqs → length file ≤ at → Scan file times₀ times freqs₀ freqs s
+pub scanning_end : {file : List ℕ} {times₀ times : List ℤ} {freqs₀ freqs : List Float} {at : ℕ} {s : PassFile} → Scanning file times₀ freqs₀ at s times freqs → length file ≤ at → Scan file times₀ times freqs₀ freqs (Ok s)
 unfolding lines times_of freqs_of
 scanning_end {file = file} {times = times} {freqs = freqs} {at = at} {s = s} a h =
     record {
       says = scan_end a.read h;
-      put_times = λ _. ap (λ (l : List ℕ). sets times s.count (times_of (lines at l))) (sym (drop_of_length-le file h)) ∙ a.left_times;
-      put_freqs = λ _. ap (λ (l : List ℕ). sets freqs s.count (freqs_of (lines at l))) (sym (drop_of_length-le file h)) ∙ a.left_freqs;
+      put_times = λ _ _. ap (λ (l : List ℕ). sets times s.count (times_of (lines at l))) (sym (drop_of_length-le file h)) ∙ a.left_times;
+      put_freqs = λ _ _. ap (λ (l : List ℕ). sets freqs s.count (freqs_of (lines at l))) (sym (drop_of_length-le file h)) ∙ a.left_freqs;
     }
 
 -- ---- as many samples are counted as stored
@@ -223,28 +227,27 @@ pub record Counted (n : ℕ) (ls : List Placed) : Type 0 where
   pub times : n ≡ length (times_of ls)
   pub freqs : n ≡ length (freqs_of ls)
 
-count_times : (p : PassFile) (ls : List Placed) → (after p ls).refusal ≡ 0 → (after p ls).count ≡ p.count + length (times_of ls)
+count_times : (p : PassFile) (ls : List Placed) {q : PassFile} → after (Ok p) ls ≡ Ok q → q.count ≡ p.count + length (times_of ls)
 unfolding after times_of
-count_times p [] e = omega arith
-count_times p (l ∷ ls) e = go (eqb p.refusal 0) refl (count_times (advance p l.at (line_of l.bytes)) ls) e
+count_times p [] e = let c = ap (λ (f : PassFile). f.count) (same_ok e) in omega arith
+count_times p (l ∷ ls) {q = q} e = go (advanced p l.at (line_of l.bytes)) refl (λ m. count_times m ls) e
   where
-    go : (b : Bool) → eqb p.refusal 0 ≡ b → ((after (advance p l.at (line_of l.bytes)) ls).refusal ≡ 0 → (after (advance p l.at (line_of l.bytes)) ls).count ≡ (advance p l.at (line_of l.bytes)).count + length (times_of ls)) → (cond b (after (advance p l.at (line_of l.bytes)) ls) p).refusal ≡ 0 → (cond b (after (advance p l.at (line_of l.bytes)) ls) p).count ≡ p.count + length (time_before (line_of l.bytes) (times_of ls))
-    go true q ih f = ih f ∙ ap (λ (n : ℕ). n + length (times_of ls)) (count_next p l.at (line_of l.bytes)) ∙ regroup p.count (length (time_before (line_of l.bytes) [])) (length (times_of ls)) ∙ ap (λ (n : ℕ). p.count + n) (sym (time_length (line_of l.bytes) (times_of ls)))
-      where
-        regroup : (a b c : ℕ) → a + b + c ≡ a + (b + c)
-        regroup a b c = omega arith
-    go false q ih f = absurd (eqb-false p.refusal 0 q f)
+    regroup : (a b c : ℕ) → a + b + c ≡ a + (b + c)
+    regroup a b c = omega arith
+
+    go : (x : Result PassFile Refusal) → advanced p l.at (line_of l.bytes) ≡ x → ((m : PassFile) → after (Ok m) ls ≡ Ok q → q.count ≡ m.count + length (times_of ls)) → after x ls ≡ Ok q → q.count ≡ p.count + length (time_before (line_of l.bytes) (times_of ls))
+    go (Ok m) h ih f = ih m f ∙ ap (λ (n : ℕ). n + length (times_of ls)) (count_next p l.at (line_of l.bytes) h) ∙ regroup p.count (length (time_before (line_of l.bytes) [])) (length (times_of ls)) ∙ ap (λ (n : ℕ). p.count + n) (sym (time_length (line_of l.bytes) (times_of ls)))
+    go (Err k) h ih f = never_both (sym (after_stop k ls) ∙ f)
 
 same_count : (ls : List Placed) → length (times_of ls) ≡ length (freqs_of ls)
 unfolding times_of freqs_of
 same_count [] = refl
 same_count (l ∷ ls) = time_length (line_of l.bytes) (times_of ls) ∙ ap (λ (n : ℕ). length (time_before (line_of l.bytes) []) + n) (same_count ls) ∙ sym (freq_length (line_of l.bytes) (freqs_of ls))
 
-pub counted : (file : List ℕ) {s : PassFile} → s ≡ scanned file → s.refusal ≡ 0 → Counted s.count (lines 0 file)
+pub counted : (file : List ℕ) {s : PassFile} → Ok s ≡ scanned file → Counted s.count (lines 0 file)
 unfolding opening
-counted file {s} h g =
-    let c = count_times opening (lines 0 file) (sym (ap (λ (p : PassFile). p.refusal) h) ∙ g) in
-    let n : s.count ≡ length (times_of (lines 0 file)) = ap (λ (p : PassFile). p.count) h ∙ c ∙ zero_less (length (times_of (lines 0 file))) in
+counted file {s} h =
+    let n : s.count ≡ length (times_of (lines 0 file)) = count_times opening (lines 0 file) (sym h) ∙ zero_less (length (times_of (lines 0 file))) in
     record { times = n; freqs = n ∙ same_count (lines 0 file) }
   where
     zero_less : (n : ℕ) → 0 + n ≡ n
@@ -266,14 +269,14 @@ module _ {ℓ} {A : Type ℓ} where
       let e = length-take-le n src g in
       sym (sets-eq (take n src) to 0 (omega arith) ∙ ap (λ (k : ℕ). take n src ++ drop k to) (let z : 0 + length (take n src) ≡ n = omega arith in z))
 
-pub copied : (file : List ℕ) {s : PassFile} {kept₀ kept : List ℤ} {keptf₀ keptf : List Float} {times times' : List ℤ} {freqs freqs' : List Float}
-    → Scan file kept₀ kept keptf₀ keptf s → s.refusal ≡ 0 → s.count ≤ length kept₀ → s.count ≤ length keptf₀
+pub copied : (file : List ℕ) {r : Result PassFile Refusal} {s : PassFile} {kept₀ kept : List ℤ} {keptf₀ keptf : List Float} {times times' : List ℤ} {freqs freqs' : List Float}
+    → Scan file kept₀ kept keptf₀ keptf r → r ≡ Ok s → s.count ≤ length kept₀ → s.count ≤ length keptf₀
     → times' ≡ sets times 0 (take s.count kept) → freqs' ≡ sets freqs 0 (take s.count keptf) → Filled file times times' freqs freqs'
 copied file {s = s} {kept₀ = k₀} {keptf₀ = f₀} {times = times} {freqs = freqs} h g n m p q =
-    let c = counted file h.says g in
+    let c = counted file (sym g ∙ h.says) in
     let ts = times_of (lines 0 file) in
     let fs = freqs_of (lines 0 file) in
     record {
-      put_times = p ∙ ap (sets times 0) ((λ i. take (c.times i) (h.put_times g i)) ∙ front k₀ ts (subst (λ (x : ℕ). x ≤ length k₀) c.times n));
-      put_freqs = q ∙ ap (sets freqs 0) ((λ i. take (c.freqs i) (h.put_freqs g i)) ∙ front f₀ fs (subst (λ (x : ℕ). x ≤ length f₀) c.freqs m));
+      put_times = p ∙ ap (sets times 0) ((λ i. take (c.times i) (h.put_times s g i)) ∙ front k₀ ts (subst (λ (x : ℕ). x ≤ length k₀) c.times n));
+      put_freqs = q ∙ ap (sets freqs 0) ((λ i. take (c.freqs i) (h.put_freqs s g i)) ∙ front f₀ fs (subst (λ (x : ℕ). x ≤ length f₀) c.freqs m));
     }

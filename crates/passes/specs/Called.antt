@@ -1,10 +1,12 @@
 -- The name that a pass file gives, said without places: the trimmed value of its last good satellite_name line.
-use Rattle.std.specs.Prelude.{ℕ, ◌+◌, not, cond, List, [], ◌∷◌, ltb, eqb, length, get_or, take, drop}
+use Rattle.std.specs.Prelude.{ℕ, ◌+◌, not, cond, List, [], ◌∷◌, ltb, eqb, length, get_or, take, drop, Some, None}
+use Rattle.std.specs.Prelude.{Option as Seen}
 use Rattle.std.proofs.Math.Option.{Option, none, some}
 use Rattle.text.specs.Text.{bytes, code}
 use Rattle.decimal.specs.Read.{spells}
 use Rattle.passes.specs.Text.{Placed, trim, until, ascii}
 use Rattle.passes.specs.File.{name_of}
+use Rattle.passes.specs.declared.pieces.Span.{Span}
 use Rattle.passes.specs.declared.file.PassFile.{PassFile}
 
 -- key, colon, value: the value, trimmed, where the key, trimmed, is satellite_name in any case of its letters
@@ -31,6 +33,11 @@ unfoldable pub last_called : Option (List ℕ) → List Placed → Option (List 
 last_called n [] = n
 last_called n (l ∷ ls) = last_called (later (called_in l.bytes) n) ls
 
--- the name part of an answer, where one was seen
+-- the name at a part of the file, where one was seen
+abbrev pub named_at : List ℕ → Seen Span → Option (List ℕ)
+named_at file None = none
+named_at file (Some n) = some (name_of file n)
+
+-- the name part of an answer
 abbrev pub part_of : List ℕ → PassFile → Option (List ℕ)
-part_of file r = cond r.name_seen (some (name_of file r)) none
+part_of file r = named_at file r.name

@@ -2,6 +2,7 @@
 use crate::{rooms, unpacked};
 use passes::file;
 use passes::file::PassFile;
+use refusal::Refusal;
 use stored::Loaded;
 
 // Whether the list at the first field is the first n of the times, and the one after it the first n of the frequencies.
@@ -13,10 +14,13 @@ fn same_samples(fields: &[u8], n: usize, times: &[i64], freqs: &[f64]) -> bool {
 
 // Whether the fields are: name seen, name, centre, times, frequencies.
 fn same_file(bytes: &[u8], r: PassFile, times: &[i64], freqs: &[f64], fields: &[u8]) -> bool {
-    if answer_lines::field(fields, 0) != r.name_seen as u64 {
+    if answer_lines::field(fields, 0) != r.name.is_some() as u64 {
         return false;
     }
-    let name = file::name(bytes, r);
+    let name = match r.name {
+        Some(part) => file::name(bytes, part),
+        None => b"",
+    };
     let list = answer_lines::from(fields, 1);
     if !answer_lines::same(list, name.len(), name) {
         return false;
@@ -31,25 +35,38 @@ fn same_file(bytes: &[u8], r: PassFile, times: &[i64], freqs: &[f64], fields: &[
 fn pass_file(bytes: &[u8], answer: &[u8]) -> bool {
     let mut times = rooms::times();
     let mut freqs = rooms::freqs();
-    let r = file::read_pass_file(bytes, &mut times, &mut freqs);
-    let refusal = r.refusal;
-    if !answer_lines::refused(answer, refusal) {
-        return false;
+    match file::read_pass_file(bytes, &mut times, &mut freqs) {
+        Ok(r) => {
+            answer_lines::refused(answer, 0)
+                && same_file(bytes, r, &times, &freqs, answer_lines::from(answer, 1))
+        }
+        Err(refusal) => answer_lines::refused(answer, refusal.number()),
     }
-    if refusal != 0 {
-        return true;
-    }
-    same_file(bytes, r, &times, &freqs, answer_lines::from(answer, 1))
 }
 
-// Whether the fields are: refusal, start and end of the name, name seen, centre, number of samples; after a refusal too.
-fn same_record(fields: &[u8], r: PassFile) -> bool {
-    answer_lines::refused(fields, r.refusal)
-        && answer_lines::field(fields, 1) == r.name_start as u64
-        && answer_lines::field(fields, 2) == r.name_end as u64
-        && answer_lines::field(fields, 3) == r.name_seen as u64
-        && answer_lines::float_is(fields, 4, r.center_freq)
-        && answer_lines::field(fields, 5) == r.count as u64
+// Whether the fields are these: refusal, start and end of the name, name seen, centre, number of samples.
+fn fields_are(fields: &[u8], refusal: u32, name: [usize; 3], center_freq: f64, n: usize) -> bool {
+    let [start, end, seen] = name;
+    answer_lines::refused(fields, refusal)
+        && answer_lines::field(fields, 1) == start as u64
+        && answer_lines::field(fields, 2) == end as u64
+        && answer_lines::field(fields, 3) == seen as u64
+        && answer_lines::float_is(fields, 4, center_freq)
+        && answer_lines::field(fields, 5) == n as u64
+}
+
+// Whether they are those of this answer; behind a refusal there are zeros.
+fn same_record(fields: &[u8], answer: Result<PassFile, Refusal>) -> bool {
+    match answer {
+        Ok(r) => {
+            let name = match r.name {
+                Some(part) => [part.start, part.end, 1],
+                None => [0, 0, 0],
+            };
+            fields_are(fields, 0, name, r.center_freq, r.count)
+        }
+        Err(refusal) => fields_are(fields, refusal.number(), [0, 0, 0], 0.0, 0),
+    }
 }
 
 // The file read into so many places of the arrays. After the record the answer has the first samples' times and frequencies, as many as

@@ -1,10 +1,10 @@
 -- `exports::files::wisvalom_read_pass_file` meets its contract. Assumes nothing.
-use Rattle.exports.proofs.Reading.{refused, accepted}
+use mathlib.Core.Path.{refl}
+use Rattle.exports.proofs.Reading.{given}
 use Rattle.exports.proofs.files.wisvalom_read_pass_file.Goals as goal
 
-pub returns-then-r-ne0 : goal.returns-then-r-ne0
-returns-then-r-ne0 c = refused c.read_pass_file-r.ensures _ _ c.if-r-ne0.true
+pub returns-in-Ok : goal.returns-in-Ok
+returns-in-Ok c = given _ _ _ c.read_pass_file.ensures c.in-Ok.is refl c.numbers_in.ensures refl
 
-pub returns : goal.returns
-returns c =
-    accepted c.read_pass_file-r.ensures _ _ c.flag.ensures c.if-r-ne0.false
+pub returns-in-Err : goal.returns-in-Err
+returns-in-Err c = given _ _ _ c.read_pass_file.ensures c.in-Err.is c.number.ensures refl refl

@@ -5,5 +5,5 @@ use Rattle.passes.specs.File as File
 use Rattle.passes.proofs.file.opening.Goals as goal
 
 pub returns : goal.returns
-unfolding of_bits round File.opening File.zeros
+unfolding of_bits round File.opening
 returns c = refl

@@ -1,5 +1,6 @@
 -- `passes::file::scan` meets its contract. Assumes nothing.
-use Rattle.passes.proofs.Files.{LineAt, line_at, scanning_start, scanning_ready, scanning_more, scanning_refused, scanning_end, kept_times, kept_freqs}
+use borrow.Author.Rules.{rules}
+use Rattle.passes.proofs.Files.{LineAt, line_at, scanning_start, scanning_ready, scanning_more, scanning_refused, scanning_end}
 use Rattle.passes.proofs.file.scan.Goals.{After-line-c}
 use Rattle.passes.proofs.file.scan.Goals as goal
 
@@ -10,26 +11,14 @@ here c = line_at c.args.file.now c.loop-at.at c.line-c.result.size c.line-c.resu
 pub loop-at-init : goal.loop-at-init
 loop-at-init c = scanning_start c.opening-s.ensures c.requires
 
-pub step-s-requires : goal.step-s-requires
-step-s-requires c = scanning_ready c.loop-at.invariant (here (goal.at.step-s-requires c).After-line-c)
+pub step-requires : goal.step-requires
+step-requires c = scanning_ready c.loop-at.invariant (here (goal.at.step-requires c).After-line-c)
 
-pub shape_of-times-then-s-ne0 : goal.shape_of-times-then-s-ne0
-shape_of-times-then-s-ne0 c = kept_times c.loop-at.invariant (here (goal.at.shape_of-times-then-s-ne0 c).After-line-c) c.step-s.ensures
-
-pub shape_of-freqs-then-s-ne0 : goal.shape_of-freqs-then-s-ne0
-shape_of-freqs-then-s-ne0 c = kept_freqs c.loop-at.invariant (here (goal.at.shape_of-freqs-then-s-ne0 c).After-line-c) c.step-s.ensures
-
-pub returns-then-s-ne0 : goal.returns-then-s-ne0
-returns-then-s-ne0 c = scanning_refused c.loop-at.invariant (here (goal.at.returns-then-s-ne0 c).After-line-c) c.step-s.ensures c.if-s-ne0.true
+pub returns-in_err-s : goal.returns-in_err-s
+returns-in_err-s c = scanning_refused c.loop-at.invariant (here (goal.at.returns-in_err-s c).After-line-c) c.step.ensures c.in_err-s.was (search rules)
 
 pub loop-at-preserved : goal.loop-at-preserved
-loop-at-preserved c = scanning_more c.loop-at.invariant (here (goal.at.loop-at-preserved c).After-line-c) c.step-s.ensures c.if-s-ne0.false
-
-pub shape_of-times : goal.shape_of-times
-shape_of-times c = c.loop-at.invariant.long_times
-
-pub shape_of-freqs : goal.shape_of-freqs
-shape_of-freqs c = c.loop-at.invariant.long_freqs
+loop-at-preserved c = scanning_more c.loop-at.invariant (here (goal.at.loop-at-preserved c).After-line-c) c.step.ensures c.in_ok-s.was
 
 pub returns : goal.returns
 returns c = scanning_end c.loop-at.invariant c.loop-at-test.false
