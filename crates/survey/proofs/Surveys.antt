@@ -7,6 +7,7 @@ use native.Mathlib.Omega.{arith}
 use lib.Dec.{eqb}
 use lib.ListN.{length, take, drop, drop_of_length-le}
 use borrow.Author.Tests.{eq-eqb, ne_eqb}
+use Rattle.std.specs.Prelude.{is_some}
 use Rattle.passes.specs.Text.{Placed, trim, lines, Trimmed}
 use Rattle.passes.specs.Line.{line_of}
 use Rattle.passes.proofs.Files.{LineAt, same_line}
@@ -30,7 +31,7 @@ pub record Walking (file : List ℕ) (at : ℕ) (s : Tally) : Type 0 where
   pub few : s.lines ≤ at
   pub few_used : s.used ≤ at
   pub few_skipped : s.skipped ≤ at
-  pub good : s.refused ≡ 0
+  pub good : is_some s.refused ≡ false
   pub left : surveyed s (lines at (drop at file)) ≡ surveyed open_tally (lines 0 file)
 
 pub walk_begins : (file : List ℕ) → Walking file 0 open_tally
@@ -58,7 +59,7 @@ module _ {file : List ℕ} {at n next : ℕ} {s r : Tally} {class : Class} (w : 
   unfolding surveyed
   then = ap (λ (q : Tally). surveyed q (lines (at + next) (drop (at + next) file))) here ∙ sym (rw (l.is, w.good)) ∙ w.left
 
-  pub walk_more : r.refused ≡ 0 → Walking file (at + next) r
+  pub walk_more : is_some r.refused ≡ false → Walking file (at + next) r
   walk_more z =
       let g = grows s class in
       record {
@@ -70,12 +71,12 @@ module _ {file : List ℕ} {at n next : ℕ} {s r : Tally} {class : Class} (w : 
         left = then;
       }
 
-  stops : (q : Tally) (ls : List Placed) → (q.refused ≡ 0 → ⊥) → surveyed q ls ≡ q
+  stops : (q : Tally) (ls : List Placed) → is_some q.refused ≡ true → surveyed q ls ≡ q
   unfolding surveyed
   stops q [] h = refl
-  stops q (l ∷ ls) h = rw (ne_eqb q.refused 0 h)
+  stops q (l ∷ ls) h = rw h refl
 
-  pub walk_refused : (r.refused ≡ 0 → ⊥) → r ≡ surveyed open_tally (lines 0 file)
+  pub walk_refused : is_some r.refused ≡ true → r ≡ surveyed open_tally (lines 0 file)
   walk_refused h = sym (stops r (lines (at + next) (drop (at + next) file)) h) ∙ then
 
 pub walk_small : {file : List ℕ} {at : ℕ} {s : Tally} → Walking file at s → at < length file → length file < 18446744073709551616 → Small s

@@ -19,14 +19,14 @@ enum Class {
 }
 
 // How many lines were read, how many of them said something, how many were skipped without being empty, the first of these, and the
-// line that was refused; lines count from 1, and 0 stands for none.
-#[derive(Clone, Copy)]
+// line that was refused; lines count from 1.
+#[derive(Clone, Copy, PartialEq, Eq, Debug)]
 pub struct Tally {
     pub lines: usize,
     pub used: usize,
     pub skipped: usize,
-    pub first: usize,
-    pub refused: usize,
+    pub first: Option<usize>,
+    pub refused: Option<usize>,
 }
 
 fn class_of(l: &[u8]) -> Class
@@ -46,11 +46,11 @@ fn class_of(l: &[u8]) -> Class
     }
 }
 
-#[tactic(auto, unfolding(crate::specs::Survey::first_line))]
-fn first_of(first: usize, line: usize) -> usize
+// The first of two lines, of which there may be no earlier one.
+fn first_of(first: Option<usize>, line: usize) -> Option<usize>
     ensures { result ≡ first_line first line }
 {
-    if first == 0 { line } else { first }
+    first.or(Some(line))
 }
 
 // One line more, of this class.
@@ -75,7 +75,7 @@ fn counted(s: Tally, class: Class) -> Tally
         },
         Class::Refused => Tally {
             lines,
-            refused: lines,
+            refused: Some(lines),
             ..s
         },
     }
@@ -89,8 +89,8 @@ pub fn survey(file: &[u8]) -> Tally
         lines: 0,
         used: 0,
         skipped: 0,
-        first: 0,
-        refused: 0,
+        first: None,
+        refused: None,
     };
     let mut at = 0;
     while at < file.len() {
@@ -98,7 +98,7 @@ pub fn survey(file: &[u8]) -> Tally
         let e = at + c.size;
         let next = c.next;
         s = counted(s, class_of(&file[at..e]));
-        if s.refused != 0 {
+        if s.refused.is_some() {
             return s;
         }
         at += next;

@@ -1,4 +1,5 @@
 -- `survey` meets its contract. Assumes nothing.
+use Rattle.std.proofs.Common.{rules}
 use native.Mathlib.Omega.{arith}
 use Rattle.passes.proofs.Files.{LineAt, line_at}
 use Rattle.survey.proofs.Surveys.{walk_begins, walk_more, walk_refused, walk_small, walk_ends}
@@ -22,9 +23,9 @@ pub counted-s-requires : goal.counted-s-requires
 counted-s-requires c =
     walk_small c.loop-at.invariant c.loop-at-test.true (omega arith)
 
-pub returns-then-s-ne0 : goal.returns-then-s-ne0
-returns-then-s-ne0 c =
-    walk_refused c.loop-at.invariant (here (goal.at.returns-then-s-ne0 c).After-line-c) c.class_of.ensures c.counted-s.ensures c.if-s-ne0.true
+pub returns-then-is_some : goal.returns-then-is_some
+returns-then-is_some c =
+    walk_refused c.loop-at.invariant (here (goal.at.returns-then-is_some c).After-line-c) c.class_of.ensures c.counted-s.ensures (search rules)
 
 pub overflow_add-at : goal.overflow_add-at
 overflow_add-at c = let h = here (goal.at.overflow_add-at c).After-line-c in omega (arith, h.inside)
@@ -34,7 +35,7 @@ loop-at-smaller c = let h = here (goal.at.loop-at-smaller c).After-line-c in ome
 
 pub loop-at-preserved : goal.loop-at-preserved
 loop-at-preserved c =
-    walk_more c.loop-at.invariant (here (goal.at.loop-at-preserved c).After-line-c) c.class_of.ensures c.counted-s.ensures c.if-s-ne0.false
+    walk_more c.loop-at.invariant (here (goal.at.loop-at-preserved c).After-line-c) c.class_of.ensures c.counted-s.ensures (search rules)
 
 pub returns : goal.returns
 returns c = walk_ends c.loop-at-test.false c.loop-at.invariant
