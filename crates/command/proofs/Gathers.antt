@@ -1,51 +1,50 @@
 -- What a file adds to a set, from what the reader of a file promises. Assumes nothing.
-use Rattle.std.proofs.Common.{◌≡◌, ℕ, zero, suc, ◌+◌, ◌-◌, ◌<◌, ◌≤◌, Bool, true, false, cond, not, eqb, ltb, List, [], ◌∷◌, ◌++◌, length, take, drop, set, ℤ, sym, refl, ap, ◌∙◌, subst, arith, length-drop, take-append-drop, length-take-le, ltb-false, le-ltb, lt-ltb, eq-eqb, ne_eqb, le-leb}
+use Rattle.std.proofs.Common.{◌≡◌, ℕ, suc, ◌+◌, ◌-◌, ◌<◌, ◌≤◌, Bool, true, false, ltb, List, [], ◌∷◌, ◌++◌, length, take, drop, set, ℤ, sym, refl, ap, ◌∙◌, subst, true≢false, arith, length-drop, take-append-drop, length-take-le, ltb-false, le-ltb, lt-ltb, le-leb, Result, Ok, Err, Some, None}
+use Rattle.std.proofs.Common.{Option as Maybe}
 use lib.Ieee.{Float}
 use lib.Seq.{sets, sets-eq, length-sets, take-append_seam, take-append-le, take-append-add, set_split}
 use borrow.Author.Tests.{lt-leb}
+use Rattle.refusal.specs.declared.Refusal.{Refusal}
+use Rattle.refusal.specs.declared.Refusal.TheVariants.{Sizes, ShortMemory}
+use Rattle.refusal.specs.Refusals.{first_of, ◌when◌, answer as unless}
 use Rattle.passes.specs.Text.{lines}
-use Rattle.passes.specs.File.{zeros, scanned, times_of, freqs_of, Reads}
+use Rattle.passes.specs.File.{scanned, times_of, freqs_of, written, Reads}
 use Rattle.passes.specs.File as File
 use Rattle.passes.specs.declared.file.PassFile.{PassFile}
-use Rattle.passes.proofs.Files.{counted}
-use Rattle.command.specs.Gather.{is_full, gather_refusal, file_answer, SameArrays, Adds}
+use Rattle.passes.proofs.Files.{counted, never_both, same_ok}
+use Rattle.command.specs.Gather.{is_full, roomless, set_answer, gather_answer, SameArrays, Appended, Adds}
 
--- ---- the file's refusal
+-- ---- what is known of an accepted file
 
 pub record Accepts (q : PassFile) (nt nf : ℕ) : Type 0 where
-  pub good : q.refusal ≡ 0
   pub few : q.count ≤ 4096
   pub times : q.count ≤ nt
   pub freqs : q.count ≤ nf
 
-line_zero : (a r : ℕ) → cond (not (eqb a 0)) a r ≡ 0 → (a ≡ 0) × (r ≡ 0)
-line_zero zero r e = (refl, e)
-line_zero (suc a) r e =
-    let f : eqb (suc a) 0 ≡ false = ne_eqb (suc a) 0 (λ (q : suc a ≡ 0). omega arith) in
-    let z : suc a ≡ 0 = rw f at e in
-    absurd (omega arith)
+room_none : (q : PassFile) (nt nf : ℕ) → File.room_refusal q nt nf ≡ None → Accepts q nt nf
+unfolding File.room_refusal
+room_none q nt nf = go (ltb 4096 q.count) (ltb nt q.count) (ltb nf q.count) refl refl refl
+  where
+    none_some : {k : Refusal} → ◌≡◌ {A = Maybe Refusal} (Some k) None → Accepts q nt nf
+    none_some e = let z : ◌≡◌ {A = ℕ} 0 1 = cc in absurd (omega arith)
 
-pub test_zero : (b : Bool) (k r : ℕ) → cond b (suc k) r ≡ 0 → (b ≡ false) × (r ≡ 0)
-test_zero true k r e = absurd (omega (arith, e))
-test_zero false k r e = (refl, e)
+    go : (a b c : Bool) → ltb 4096 q.count ≡ a → ltb nt q.count ≡ b → ltb nf q.count ≡ c → first_of ((Sizes when a) ∷ (ShortMemory when b) ∷ (ShortMemory when c) ∷ []) ≡ None → Accepts q nt nf
+    go true b c x y z e = none_some e
+    go false true c x y z e = none_some e
+    go false false true x y z e = none_some e
+    go false false false x y z e = record { few = ltb-false _ _ x; times = ltb-false _ _ y; freqs = ltb-false _ _ z }
 
-pub accepts : (q : PassFile) (nt nf : ℕ) → File.pass_file_refusal q nt nf ≡ 0 → Accepts q nt nf
-unfolding File.pass_file_refusal
-accepts q nt nf e =
-    let c : ℕ = cond (ltb nf q.count) 21 0 in
-    let b : ℕ = cond (ltb nt q.count) 21 c in
-    let a : ℕ = cond (ltb 4096 q.count) 5 b in
-    let l = line_zero q.refusal a e in
-    let m = test_zero (ltb 4096 q.count) 4 b l.1 in
-    let t = test_zero (ltb nt q.count) 20 c m.1 in
-    let f = test_zero (ltb nf q.count) 20 0 t.1 in
-    record { good = l.0; few = ltb-false _ _ m.0; times = ltb-false _ _ t.0; freqs = ltb-false _ _ f.0 }
+-- an answer that is none of a refusal says what the lines say
+pub given : (file : List ℕ) (nt nf : ℕ) {q : PassFile} → File.answer file nt nf ≡ Ok q → (scanned file ≡ Ok q) × Accepts q nt nf
+given file nt nf {q} = go (scanned file) refl
+  where
+    roomy : (p : PassFile) (o : Maybe Refusal) → File.room_refusal p nt nf ≡ o → scanned file ≡ Ok p → unless o p ≡ Ok q → (scanned file ≡ Ok q) × Accepts q nt nf
+    roomy p None r s f = (s ∙ f, subst (λ (v : PassFile). Accepts v nt nf) (same_ok f) (room_none p nt nf r))
+    roomy p (Some k) r s f = never_both f
 
--- the answer's number is the refusal's
-answer_number : (file : List ℕ) (nt nf k : ℕ) → File.pass_file_refusal (scanned file) nt nf ≡ k → (File.answer file nt nf).refusal ≡ k
-unfolding File.answer zeros
-answer_number file nt nf zero e = simp (e, (accepts (scanned file) nt nf e).good)
-answer_number file nt nf (suc k) e = simp (e, ne_eqb (suc k) 0 (λ (q : suc k ≡ 0). omega arith))
+    go : (x : Result PassFile Refusal) → scanned file ≡ x → File.with_room nt nf x ≡ Ok q → (scanned file ≡ Ok q) × Accepts q nt nf
+    go (Ok p) s f = roomy p (File.room_refusal p nt nf) refl s f
+    go (Err k) s f = never_both f
 
 -- ---- lists
 
@@ -112,111 +111,82 @@ back s xs ys = take s xs ++ (ys ++ drop (length xs - s) (drop s xs))
 part_length : {A : Type 0} (s : ℕ) (xs : List A) → length (part s xs) ≡ length xs - s
 part_length s xs = length-take-le (length xs - s) (drop s xs) (rw length-drop (omega arith))
 
-module _ (file : List ℕ) (s : ℕ) (times : List ℤ) (freqs : List Float) where
-  abbrev number : ℕ
-  number = File.pass_file_refusal (scanned file) (length times - s) (length freqs - s)
+module _ (file : List ℕ) (s : ℕ) (times : List ℤ) (freqs : List Float) {r : Result PassFile Refusal} {t : List ℤ} {f : List Float} (h : Reads file (part s times) t (part s freqs) f r) where
+  whole : r ≡ File.answer file (length times - s) (length freqs - s)
+  whole = subst (λ (n : ℕ). r ≡ File.answer file n (length freqs - s)) (part_length s times)
+      (subst (λ (n : ℕ). r ≡ File.answer file (length (part s times)) n) (part_length s freqs) h.says)
 
-  whole : {q : PassFile} {t : List ℤ} {f : List Float} → Reads file (part s times) t (part s freqs) f q → q ≡ file_answer number file
-  unfolding File.answer
-  whole {q = q} r = subst (λ (n : ℕ). q ≡ File.answer file n (length freqs - s)) (part_length s times)
-      (subst (λ (n : ℕ). q ≡ File.answer file (length (part s times)) n) (part_length s freqs) r.says)
+  module _ {q : PassFile} (e : r ≡ Ok q) where
+    accepted : (scanned file ≡ Ok q) × Accepts q (length times - s) (length freqs - s)
+    accepted = given file (length times - s) (length freqs - s) (sym whole ∙ e)
 
-  numbered : {q : PassFile} {t : List ℤ} {f : List Float} → Reads file (part s times) t (part s freqs) f q → q.refusal ≡ number
-  unfolding File.answer
-  numbered r = ap (λ (q : PassFile). q.refusal) (whole r) ∙ answer_number file (length times - s) (length freqs - s) number refl
-
-  accepted : {q : PassFile} {t : List ℤ} {f : List Float} → Reads file (part s times) t (part s freqs) f q → q.refusal ≡ 0 → Accepts (scanned file) (length times - s) (length freqs - s)
-  accepted g k = accepts (scanned file) (length times - s) (length freqs - s) (sym (numbered g) ∙ k)
-
-  pub same_file : {q : PassFile} {t : List ℤ} {f : List Float} → Reads file (part s times) t (part s freqs) f q → q.refusal ≡ 0 → q ≡ scanned file
-  same_file g k = whole g ∙ ap (λ (n : ℕ). file_answer n file) (sym (numbered g) ∙ k)
-
-  pub few_samples : {q : PassFile} {t : List ℤ} {f : List Float} → Reads file (part s times) t (part s freqs) f q → q.refusal ≡ 0 → q.count ≤ 4096
-  few_samples g k = subst (λ (q : PassFile). q.count ≤ 4096) (sym (same_file g k)) (accepted g k).few
+    pub few_samples : q.count ≤ 4096
+    few_samples = accepted.1.few
 
 module _ (file : List ℕ) (p s : ℕ) (counts : List ℕ) (times : List ℤ) (freqs centers : List Float) where
-  none_left : {r : PassFile} → is_full p s (length counts) (length times) (length freqs) (length centers) ≡ true → r ≡ zeros 5
-      → Adds file p s counts counts times times freqs freqs centers centers r
-  unfolding zeros gather_refusal
-  none_left {r = r} f e =
+  none_left : is_full p s (length counts) (length times) (length freqs) (length centers) ≡ true → Adds file p s counts counts times times freqs freqs centers centers (Err Sizes)
+  unfolding gather_answer
+  none_left f =
       record {
-        says = e ∙ simp f;
-        appended = λ (z : r.refusal ≡ 0). absurd (omega (arith, sym (ap (λ (q : PassFile). q.refusal) e) ∙ z));
-        kept = λ (h : 0 < r.refusal). record { same_counts_lem = refl; same_times = refl; same_freqs = refl; same_centers = refl };
+        says = simp f;
+        appended = λ q z. never_both z;
+        kept = λ k z. record { same_counts_lem = refl; same_times = refl; same_freqs = refl; same_centers = refl };
       }
 
-  pub no_counts : {r : PassFile} → length counts ≤ p → r ≡ zeros 5 → Adds file p s counts counts times times freqs freqs centers centers r
+  pub no_counts : length counts ≤ p → Adds file p s counts counts times times freqs freqs centers centers (Err Sizes)
   no_counts a = none_left (full_counts p s (length counts) (length times) (length freqs) (length centers) a)
 
-  pub no_centers : {r : PassFile} → p < length counts → length centers ≤ p → r ≡ zeros 5 → Adds file p s counts counts times times freqs freqs centers centers r
+  pub no_centers : p < length counts → length centers ≤ p → Adds file p s counts counts times times freqs freqs centers centers (Err Sizes)
   no_centers a b = none_left (full_centers p s (length counts) (length times) (length freqs) (length centers) a b)
 
-  pub no_times : {r : PassFile} → p < length counts → p < length centers → length times < s → r ≡ zeros 5 → Adds file p s counts counts times times freqs freqs centers centers r
+  pub no_times : p < length counts → p < length centers → length times < s → Adds file p s counts counts times times freqs freqs centers centers (Err Sizes)
   no_times a b d = none_left (full_times p s (length counts) (length times) (length freqs) (length centers) a b d)
 
-  pub no_freqs : {r : PassFile} → p < length counts → p < length centers → s ≤ length times → length freqs < s → r ≡ zeros 5
-      → Adds file p s counts counts times times freqs freqs centers centers r
+  pub no_freqs : p < length counts → p < length centers → s ≤ length times → length freqs < s → Adds file p s counts counts times times freqs freqs centers centers (Err Sizes)
   no_freqs a b d e = none_left (full_freqs p s (length counts) (length times) (length freqs) (length centers) a b d e)
-
-  -- a refused file leaves the parts as they were, and so the arrays
-  left : {q : PassFile} {t : List ℤ} {f : List Float} → (q.refusal ≡ 0 → ⊥) → Reads file (part s times) t (part s freqs) f q
-      → SameArrays counts counts times (back s times t) freqs (back s freqs f) centers centers
-  left {q = q} {t = t} {f = f} h r =
-      let z : eqb q.refusal 0 ≡ false = ne_eqb q.refusal 0 h in
-      record {
-        same_counts_lem = refl;
-        same_times = put_back s (length times - s) times t (rw z at r.put_times);
-        same_freqs = put_back s (length freqs - s) freqs f (rw z at r.put_freqs);
-        same_centers = refl;
-      }
 
   module _ (a : p < length counts) (b : p < length centers) (d : s ≤ length times) (e : s ≤ length freqs) where
     open_room : is_full p s (length counts) (length times) (length freqs) (length centers) ≡ false
     open_room = not_full p s (length counts) (length times) (length freqs) (length centers) a b d e
 
-    pub no_room : {q r : PassFile} {t : List ℤ} {f : List Float} → Reads file (part s times) t (part s freqs) f q → q.refusal ≡ 21 → r ≡ zeros 5
-        → Adds file p s counts counts times (back s times t) freqs (back s freqs f) centers centers r
-    unfolding zeros gather_refusal
-    no_room {q = q} {r = r} g k z =
+    roomy : (full : Bool) → full ≡ false → {x : Result PassFile Refusal} → File.answer file (length times - s) (length freqs - s) ≡ x → set_answer x ≡ gather_answer full file (length times - s) (length freqs - s)
+    unfolding gather_answer
+    roomy true h k = absurd (true≢false h)
+    roomy false h k = ap set_answer (sym k)
+
+    -- a refused file leaves the parts as they were, and so the arrays
+    pub refused_file : {r : Result PassFile Refusal} {t : List ℤ} {f : List Float} {k l : Refusal} → Reads file (part s times) t (part s freqs) f r → r ≡ Err k → l ≡ roomless k
+        → Adds file p s counts counts times (back s times t) freqs (back s freqs f) centers centers (Err l)
+    refused_file {r = r} {t = t} {f = f} {k = k} g x y =
+        let n : t ≡ part s times = g.put_times ∙ ap (λ (v : Result PassFile Refusal). written v (sets (part s times) 0 (times_of (lines 0 file))) (part s times)) x in
+        let m : f ≡ part s freqs = g.put_freqs ∙ ap (λ (v : Result PassFile Refusal). written v (sets (part s freqs) 0 (freqs_of (lines 0 file))) (part s freqs)) x in
+        let z : Err (roomless k) ≡ gather_answer (is_full p s (length counts) (length times) (length freqs) (length centers)) file (length times - s) (length freqs - s) = roomy (is_full p s (length counts) (length times) (length freqs) (length centers)) open_room (sym (whole file s times freqs g) ∙ x) in
         record {
-          says = z ∙ simp (open_room, sym (numbered file s times freqs g) ∙ k);
-          appended = λ (y : r.refusal ≡ 0). absurd (omega (arith, sym (ap (λ (q : PassFile). q.refusal) z) ∙ y));
-          kept = λ (y : 0 < r.refusal). left (λ (w : q.refusal ≡ 0). omega (arith, k, w)) g;
+          says = ap (λ (v : Refusal). Err v) y ∙ z;
+          appended = λ q w. never_both w;
+          kept = λ j w. record { same_counts_lem = refl; same_times = put_back s (length times - s) times t n; same_freqs = put_back s (length freqs - s) freqs f m; same_centers = refl };
         }
 
-    roomy : {n : ℕ} → (n ≡ 21 → ⊥) → File.pass_file_refusal (scanned file) (length times - s) (length freqs - s) ≡ n
-        → gather_refusal (is_full p s (length counts) (length times) (length freqs) (length centers)) file (length times - s) (length freqs - s) ≡ n
-    unfolding gather_refusal
-    roomy {n} h k = simp (open_room, k, ne_eqb n 21 h)
-
-    pub refused_file : {q : PassFile} {t : List ℤ} {f : List Float} → Reads file (part s times) t (part s freqs) f q → (q.refusal ≡ 21 → ⊥) → (q.refusal ≡ 0 → ⊥)
-        → Adds file p s counts counts times (back s times t) freqs (back s freqs f) centers centers q
-    refused_file {q = q} g h k =
+    pub accepted_file : {r : Result PassFile Refusal} {t : List ℤ} {f : List Float} {q : PassFile} → Reads file (part s times) t (part s freqs) f r → r ≡ Ok q
+        → Adds file p s counts (set counts p q.count) times (back s times t) freqs (back s freqs f) centers (set centers p q.center_freq) (Ok q)
+    accepted_file {r = r} {t = t} {f = f} {q = q} g x =
+        let y = accepted file s times freqs g x in
+        let i = y.1 in
+        let n = counted file (sym y.0) in
+        let u : t ≡ sets (part s times) 0 (times_of (lines 0 file)) = g.put_times ∙ ap (λ (v : Result PassFile Refusal). written v (sets (part s times) 0 (times_of (lines 0 file))) (part s times)) x in
+        let w : f ≡ sets (part s freqs) 0 (freqs_of (lines 0 file)) = g.put_freqs ∙ ap (λ (v : Result PassFile Refusal). written v (sets (part s freqs) 0 (freqs_of (lines 0 file))) (part s freqs)) x in
         record {
-          says = whole file s times freqs g ∙ ap (λ (n : ℕ). file_answer n file) (sym (roomy (λ (w : number file s times freqs ≡ 21). h (numbered file s times freqs g ∙ w)) refl));
-          appended = λ (y : q.refusal ≡ 0). absurd (k y);
-          kept = λ (y : 0 < q.refusal). left k g;
-        }
-
-    pub accepted_file : {q : PassFile} {t : List ℤ} {f : List Float} → Reads file (part s times) t (part s freqs) f q → q.refusal ≡ 0
-        → Adds file p s counts (set counts p q.count) times (back s times t) freqs (back s freqs f) centers (set centers p q.center_freq) q
-    accepted_file {q = q} {t = t} {f = f} g k =
-        let x = same_file file s times freqs g k in
-        let y = accepted file s times freqs g k in
-        let n = counted file refl y.good in
-        let z : eqb q.refusal 0 ≡ true = eq-eqb q.refusal 0 k in
-        record {
-          says = whole file s times freqs g ∙ ap (λ (n : ℕ). file_answer n file) (sym (roomy (λ (w : number file s times freqs ≡ 21). omega (arith, w, numbered file s times freqs g, k)) refl));
-          appended = λ (_ : q.refusal ≡ 0).
-              record {
-                counted = put_one p counts q.count a ∙ ap (λ (v : PassFile). take p counts ++ (v.count ∷ [])) x;
-                centred = put_one p centers q.center_freq b ∙ ap (λ (v : PassFile). take p centers ++ (v.center_freq ∷ [])) x;
-                timed = put_new s (length times - s) (scanned file).count times t (times_of (lines 0 file)) d refl n.times y.times (rw z at g.put_times);
-                heard = put_new s (length freqs - s) (scanned file).count freqs f (freqs_of (lines 0 file)) e refl n.freqs y.freqs (rw z at g.put_freqs);
+          says = roomy (is_full p s (length counts) (length times) (length freqs) (length centers)) open_room (sym (whole file s times freqs g) ∙ x);
+          appended = λ v z. subst (λ (o : PassFile). Appended file o p s counts (set counts p q.count) times (back s times t) freqs (back s freqs f) centers (set centers p q.center_freq)) (same_ok z)
+              (record {
+                counted = put_one p counts q.count a;
+                centred = put_one p centers q.center_freq b;
+                timed = put_new s (length times - s) q.count times t (times_of (lines 0 file)) d refl n.times i.times u;
+                heard = put_new s (length freqs - s) q.count freqs f (freqs_of (lines 0 file)) e refl n.freqs i.freqs w;
                 counts_room = a;
                 centers_room = b;
-                times_room = omega (arith, d, y.times);
-                freqs_room = omega (arith, e, y.freqs);
-              };
-          kept = λ (y : 0 < q.refusal). absurd (omega (arith, k, y));
+                times_room = omega (arith, d, i.times);
+                freqs_room = omega (arith, e, i.freqs);
+              });
+          kept = λ k z. never_both (sym z);
         }

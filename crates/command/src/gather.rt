@@ -1,40 +1,33 @@
 // Pass files gathered into one pass set, a pass for each file, and the satellite's name from the first file in time that has one.
-ghost use Rattle.std.specs.Prelude.{◌≡◌, ◌≤◌, ◌&&◌, ◌++◌, length, take, drop, nat_le};
-ghost use Rattle.passes.specs.File.{zeros};
-ghost use Rattle.command.specs.Gather.{arrays, First, Adds, Keeps, Opens, stopped_by, Extends};
+ghost use Rattle.std.specs.Prelude.{◌≡◌, ◌≤◌, length, take};
+ghost use Rattle.command.specs.Gather.{arrays, roomless, First, Adds, no_later, Keeps, Opens, Extends};
 
 use passes::file;
 use passes::file::PassFile;
+use refusal::Refusal;
 
-// Whether a name was seen, how many bytes the name to print has, and where its file belongs in the order of time.
+// How many bytes the name to print has, and where its file belongs in the order of time: none is UNKNOWN, of no file.
 #[derive(Clone, Copy)]
 pub struct Name {
-    pub seen: bool,
     pub size: usize,
-    pub key: u64,
+    pub key: Option<u64>,
 }
 
-// The set so far, which stands in the first places of the arrays. `failed`: the last file added nothing, by this refusal, or 0 where
-// it could not be read.
+// The set so far, which stands in the first places of the arrays.
 #[derive(Clone, Copy)]
 pub struct Gathered {
-    pub failed: bool,
-    pub refusal: u32,
     pub passes: usize,
     pub samples: usize,
     pub name: Name,
 }
 
-fn refused(refusal: u32) -> PassFile
-    ensures { result ≡ zeros refusal }
+// That a file's samples find no room is 5 here: they would be more than a set has.
+fn roomless(refusal: Refusal) -> Refusal
+    ensures { result ≡ roomless refusal }
 {
-    PassFile {
-        refusal,
-        name_start: 0,
-        name_end: 0,
-        name_seen: false,
-        center_freq: 0.0,
-        count: 0,
+    match refusal {
+        Refusal::ShortMemory => Refusal::Sizes,
+        _ => refusal,
     }
 }
 
@@ -48,83 +41,55 @@ fn add_file(
     times: &mut [i64],
     freqs: &mut [f64],
     centers: &mut [f64],
-) -> PassFile
+) -> Result<PassFile, Refusal>
     ensures { Adds file.now p s counts.old counts.new times.old times.new freqs.old freqs.new centers.old centers.new result }
 {
-    if counts.len() <= p {
-        return refused(refusal::SIZES);
+    if counts.len() <= p || centers.len() <= p || times.len() < s || freqs.len() < s {
+        return Err(Refusal::Sizes);
     }
-    if centers.len() <= p {
-        return refused(refusal::SIZES);
-    }
-    if times.len() < s {
-        return refused(refusal::SIZES);
-    }
-    if freqs.len() < s {
-        return refused(refusal::SIZES);
-    }
-    let r = file::read_pass_file(file, &mut times[s..], &mut freqs[s..]);
-    let k = r.refusal;
-    if k == refusal::SHORT_MEMORY {
-        return refused(refusal::SIZES);
-    }
-    if k != 0 {
-        return r;
-    }
-    let n = r.count;
-    counts[p] = n as u32;
-    centers[p] = r.center_freq;
-    r
-}
-
-// Copies the bytes to the first places of out.
-fn copy(from: &[u8], out: &mut [u8])
-    requires { length from.now ≤ length out.old }
-    ensures { out.new ≡ from.now ++ drop (length from.now) out.old }
-{
-    for p in 0..from.len() {
-        out[p] = from[p];
+    match file::read_pass_file(file, &mut times[s..], &mut freqs[s..]) {
+        Ok(r) => {
+            counts[p] = r.count as u32;
+            centers[p] = r.center_freq;
+            Ok(r)
+        }
+        Err(refusal) => Err(roomless(refusal)),
     }
 }
 
-// The same of as many bytes as find room, and how many these are.
+// As many of the bytes as find room, in the first places of out, and how many these are.
 fn put(from: &[u8], out: &mut [u8]) -> usize
     ensures { First result out.new (take (length out.old) from.now) }
 {
-    let n = from.len();
-    let m = out.len();
-    if m < n {
-        copy(&from[..m], out);
-        return m;
-    }
-    copy(from, out);
+    let n = out.len().min(from.len());
+    out[..n].copy_from_slice(&from[..n]);
     n
 }
 
-fn stays(name: Name, key: u64) -> bool
-    ensures { result ≡ (name.seen && nat_le name.key key) }
+// Whether a name is of a file that is not later.
+fn stays(kept: Option<u64>, key: u64) -> bool
+    ensures { result ≡ no_later kept key }
 {
-    if !name.seen {
-        return false;
+    match kept {
+        Some(k) => k <= key,
+        None => false,
     }
-    name.key <= key
 }
 
 // After a file: its name, if it has one and none of a file that is not later was seen.
 fn keep_name(name: Name, file: &[u8], r: PassFile, key: u64, out: &mut [u8]) -> Name
     ensures { Keeps name file.now r key out.old out.new result }
 {
-    if !r.name_seen {
+    let Some(part) = r.name else {
+        return name;
+    };
+    if stays(name.key, key) {
         return name;
     }
-    if stays(name, key) {
-        return name;
-    }
-    let size = put(file::name(file, r), out);
+    let size = put(file::name(file, part), out);
     Name {
-        seen: true,
         size,
-        key,
+        key: Some(key),
     }
 }
 
@@ -133,31 +98,10 @@ pub fn no_files(name: &mut [u8]) -> Gathered
     ensures { Opens name.new result }
 {
     let size = put(b"UNKNOWN", name);
-    let unknown = Name {
-        seen: false,
-        size,
-        key: 0,
-    };
     Gathered {
-        failed: false,
-        refusal: 0,
         passes: 0,
         samples: 0,
-        name: unknown,
-    }
-}
-
-// The set as it was, and that a file failed, by this refusal, or 0.
-pub fn stopped(g: Gathered, refusal: u32) -> Gathered
-    ensures { result ≡ stopped_by refusal g }
-{
-    let name = g.name;
-    Gathered {
-        failed: true,
-        refusal,
-        passes: g.passes,
-        samples: g.samples,
-        name,
+        name: Name { size, key: None },
     }
 }
 
@@ -170,24 +114,18 @@ pub fn add(
     freqs: &mut [f64],
     centers: &mut [f64],
     name: &mut [u8],
-) -> Gathered
+) -> Result<Gathered, Refusal>
     ensures { Extends file.now g (arrays counts.old times.old freqs.old centers.old name.old)
         (arrays counts.new times.new freqs.new centers.new name.new) result }
 {
-    let r = add_file(file, g.passes, g.samples, counts, times, freqs, centers);
-    let k = r.refusal;
-    if k != 0 {
-        return stopped(g, k);
-    }
     let s = g.samples;
+    let r = add_file(file, g.passes, s, counts, times, freqs, centers)?;
     let e = s + r.count;
     let key = ordering::first_key(&times[s..e]);
     let kept = keep_name(g.name, file, r, key, name);
-    Gathered {
-        failed: false,
-        refusal: 0,
+    Ok(Gathered {
         passes: g.passes + 1,
         samples: e,
         name: kept,
-    }
+    })
 }

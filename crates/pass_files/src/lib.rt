@@ -21,13 +21,6 @@ use std::rt::Files;
 // The bytes of the largest file that is read: 4,096 lines of 256 bytes with CR LF take 1,056,768.
 const MAX_FILE: usize = 1114112;
 
-// How many bytes a file has, or that it could not be read.
-#[derive(Clone, Copy)]
-struct Content {
-    failed: bool,
-    size: usize,
-}
-
 // Reads up to the file's end, or until the buffer is full.
 fn read_all(file: &mut impl Read, buf: &mut [u8]) -> io::Result<usize>
     ensures { ReadsAtMost result buf.new }
@@ -51,39 +44,25 @@ fn buffer() -> [u8; 1114113]
 }
 
 // The same of a file that is not too large. Why one is not taken has been told.
-fn read_file(stderr: Stderr, file: &mut impl Read, path: &[u8], buf: &mut [u8]) -> Content
-    ensures { IsPrefixLen result.size buf.new }
+fn read_file(stderr: Stderr, file: &mut impl Read, path: &[u8], buf: &mut [u8]) -> Option<usize>
+    ensures { IfSome result (λ n. IsPrefixLen n buf.new) }
 {
-    let none = Content {
-        failed: true,
-        size: 0,
-    };
     match read_all(file, buf) {
-        Ok(size) => {
-            if MAX_FILE < size {
-                say::file(stderr, path, b"larger than 1114112 bytes");
-                return none;
-            }
-            Content {
-                failed: false,
-                size,
-            }
-        }
-        Err(e) => {
-            errors::tell(stderr, path, e);
-            none
-        }
+        Ok(size) if size <= MAX_FILE => return Some(size),
+        Ok(_) => say::file(stderr, path, b"larger than 1114112 bytes"),
+        Err(e) => errors::tell(stderr, path, e),
     }
+    None
 }
 
 // Before a file is added: whether it names another satellite than those before it.
 fn tell_name(stderr: Stderr, path: &[u8], kept: Name, name: &[u8], file: &[u8]) {
-    if kept.seen {
+    if kept.key.is_some() {
         say::other_name(stderr, path, name, kept.size, file);
     }
 }
 
-// The open file's content is added.
+// The open file's content is added. Why it is not has been told.
 fn add_content(
     stderr: Stderr,
     from: &mut impl Read,
@@ -94,20 +73,25 @@ fn add_content(
     freqs: &mut [f64],
     centers: &mut [f64],
     name: &mut [u8],
-) -> Gathered
+) -> Option<Gathered>
     ensures { Continues g (arrays counts.old times.old freqs.old centers.old name.old)
         (arrays counts.new times.new freqs.new centers.new name.new) result }
 {
     let mut bytes = buffer();
-    let c = read_file(stderr, from, path, &mut bytes);
-    if c.failed {
-        return gather::stopped(g, 0);
-    }
-    let n = c.size;
+    let Some(n) = read_file(stderr, from, path, &mut bytes) else {
+        return None;
+    };
     tell_name(stderr, path, g.name, name, &bytes[..n]);
-    let r = gather::add(&bytes[..n], g, counts, times, freqs, centers, name);
-    say::lines(stderr, path, &bytes[..n], r.refusal);
-    r
+    match gather::add(&bytes[..n], g, counts, times, freqs, centers, name) {
+        Ok(set) => {
+            say::skipped(stderr, path, &bytes[..n]);
+            Some(set)
+        }
+        Err(refusal) => {
+            say::refused(stderr, path, &bytes[..n], refusal);
+            None
+        }
+    }
 }
 
 // The system's numbers for a word that is missing, and for one that is too long.
@@ -147,7 +131,7 @@ fn open<R: Files>(rt: &R, stderr: Stderr, path: &[u8]) -> Option<R::File> {
     }
 }
 
-// The file that word i names is added.
+// The file that word i names is added. Why it is not has been told.
 fn add_word<R: Files + Env>(
     rt: &R,
     stderr: Stderr,
@@ -158,16 +142,16 @@ fn add_word<R: Files + Env>(
     freqs: &mut [f64],
     centers: &mut [f64],
     name: &mut [u8],
-) -> Gathered
+) -> Option<Gathered>
     ensures { Continues g (arrays counts.old times.old freqs.old centers.old name.old)
         (arrays counts.new times.new freqs.new centers.new name.new) result }
 {
     let mut path = [0u8; 4096];
     let Some(n) = name_of(rt, stderr, i, &mut path) else {
-        return gather::stopped(g, 0);
+        return None;
     };
     let Some(mut file) = open(rt, stderr, &path[..n]) else {
-        return gather::stopped(g, 0);
+        return None;
     };
     add_content(
         stderr,
@@ -182,8 +166,8 @@ fn add_word<R: Files + Env>(
     )
 }
 
-// The n files from word `first` on, in their order; none after one that fails. What a file holds no contract can say: there are
-// some n contents of which the arrays hold the set. `fit_command` meets the `requires` by proof.
+// The n files from word `first` on, in their order; none after one that fails, and then no set. What a file holds no contract can
+// say: there are some n contents of which the arrays hold the set. `fit_command` meets the `requires` by proof.
 pub fn gather_files<R: Files + Env>(
     rt: &R,
     stderr: Stderr,
@@ -194,7 +178,7 @@ pub fn gather_files<R: Files + Env>(
     freqs: &mut [f64],
     centers: &mut [f64],
     name: &mut [u8],
-) -> Gathered
+) -> Option<Gathered>
     requires { (n ≤ 16) × (first ≤ 6) }
     ensures { Gathers n result (arrays counts.new times.new freqs.new centers.new name.new) }
 {
@@ -210,10 +194,7 @@ pub fn gather_files<R: Files + Env>(
             freqs,
             centers,
             name,
-        );
-        if g.failed {
-            return g;
-        }
+        )?;
     }
-    g
+    Some(g)
 }

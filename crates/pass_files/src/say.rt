@@ -1,5 +1,6 @@
 // What is said of a file on standard error. `write` serves the command too.
 use append::Text;
+use refusal::Refusal;
 use std::io::Stderr;
 use survey::Tally;
 
@@ -24,10 +25,12 @@ pub fn file(stderr: Stderr, path: &[u8], what: &[u8]) {
     write(stderr, b"\n");
 }
 
-fn refused(stderr: Stderr, path: &[u8], k: u32, line: usize) {
+// A refused file, and at which of its lines, where the refusal belongs to one.
+pub fn refused(stderr: Stderr, path: &[u8], file: &[u8], refusal: Refusal) {
+    let line = survey::survey(file).refused.unwrap_or(0);
     let mut room = [0u8; 4608];
     let mut text = Text::new(&mut room);
-    report_text::refused::file_refusal(path, line, k, &mut text);
+    report_text::refused::file_refusal(path, line, refusal.number(), &mut text);
     write(stderr, text.written());
 }
 
@@ -46,28 +49,20 @@ fn line_or_lines(stderr: Stderr, n: usize) {
     write(stderr, b" lines that are");
 }
 
-fn skipped(stderr: Stderr, path: &[u8], t: Tally) {
-    if t.skipped == 0 {
+// How many of an accepted file's lines were skipped.
+pub fn skipped(stderr: Stderr, path: &[u8], file: &[u8]) {
+    let t = survey::survey(file);
+    let Some(first) = t.first else {
         return;
-    }
+    };
     write(stderr, b"warning: ");
     write(stderr, path);
     write(stderr, b": skipped ");
     all_or_some(stderr, t);
     line_or_lines(stderr, t.skipped);
     write(stderr, b" neither a header nor a sample, first line ");
-    number(stderr, t.first);
+    number(stderr, first);
     write(stderr, b"\n");
-}
-
-// Of a file's lines, which was refused, by this number, or how many were skipped.
-pub fn lines(stderr: Stderr, path: &[u8], file: &[u8], k: u32) {
-    let t = survey::survey(file);
-    if k != 0 {
-        refused(stderr, path, k, t.refused);
-        return;
-    }
-    skipped(stderr, path, t);
 }
 
 fn unlike(stderr: Stderr, path: &[u8], name: &[u8], file: &[u8]) {
@@ -85,7 +80,7 @@ fn unlike(stderr: Stderr, path: &[u8], name: &[u8], file: &[u8]) {
 
 // A file that names another satellite than a file before it, whose name is in the first n bytes.
 pub fn other_name(stderr: Stderr, path: &[u8], name: &[u8], n: usize, file: &[u8]) {
-    if n <= name.len() {
-        unlike(stderr, path, &name[..n], file);
+    if let Some(kept) = name.get(..n) {
+        unlike(stderr, path, kept, file);
     }
 }

@@ -1,9 +1,12 @@
 -- `add_content` meets its contract. Assumes nothing.
-use Rattle.command.proofs.Sets.{stops, goes_on}
+use Rattle.command.proofs.Sets.{stops, goes_on, ends}
 use Rattle.pass_files.proofs.add_content.Goals as goal
 
-pub returns-then-c : goal.returns-then-c
-returns-then-c g c = stops _ _ 0 c.stopped.ensures
+pub returns-in_default : goal.returns-in_default
+returns-in_default g c = stops _ _
 
-pub returns : goal.returns
-returns g c = goes_on _ _ c.add-r.ensures
+pub returns-in-Ok : goal.returns-in-Ok
+returns-in-Ok g c = goes_on _ _ c.add.ensures c.in-Ok.is
+
+pub returns-in-Err : goal.returns-in-Err
+returns-in-Err g c = ends _ _ c.add.ensures c.in-Err.is

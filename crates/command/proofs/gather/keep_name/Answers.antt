@@ -1,16 +1,13 @@
 -- `keep_name` meets its contract. Assumes nothing.
 use Rattle.std.proofs.Common.{sym, ◌∙◌}
-use borrow.Author.Tests.{not-true, not-false}
-use Rattle.command.proofs.Lists.{kept_name, no_new_name, new_name}
+use Rattle.command.proofs.Lists.{no_new_name, kept_name, new_name}
 use Rattle.command.proofs.gather.keep_name.Goals as goal
 
-pub returns-then-not-r : goal.returns-then-not-r
-returns-then-not-r c = no_new_name _ _ _ _ _ (not-true _ c.if-not-r.true)
+pub returns-in_default : goal.returns-in_default
+returns-in_default c = no_new_name _ _ _ _ _ c.in_default.is
 
 pub returns-then-stays : goal.returns-then-stays
-returns-then-stays c =
-    kept_name _ _ _ _ _ (not-false _ c.if-not-r.false) (sym c.stays.ensures ∙ c.if-stays.true)
+returns-then-stays c = kept_name _ _ _ _ _ c.in-Some.is (sym c.stays.ensures ∙ c.if-stays.true)
 
 pub returns : goal.returns
-returns c =
-    new_name _ _ _ _ _ _ (not-false _ c.if-not-r.false) (sym c.stays.ensures ∙ c.if-stays.false) c.name.ensures c.put-size.ensures
+returns c = new_name _ _ _ _ _ c.in-Some.is _ (sym c.stays.ensures ∙ c.if-stays.false) c.name.ensures c.put-size.ensures
