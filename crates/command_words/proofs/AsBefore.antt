@@ -9,25 +9,31 @@ use lib.Dec.{ltb}
 use lib.ListN.{length}
 use borrow.Author.Tests.{le-ltb}
 use Rattle.float.specs.Ops.{radians_of}
-use Rattle.decimal.specs.Read.{number}
-use Rattle.std.proofs.Common.{Err}
+use lib.Ieee.{Float}
+use Rattle.decimal.specs.Read.{Number, number}
+use Rattle.std.proofs.Common.{Result, Ok, Err}
 use Rattle.decimal.specs.declared.read.NumberError.TheVariants.{NotANumber}
 use Rattle.geodetic.proofs.Total.{number_no_comma}
-use Rattle.command_words.specs.Words.{is_line, if_number, mast_of, request_of}
+use Rattle.command_words.specs.Words.{is_line, numbered, and_then, mast_of, request_of}
 use Rattle.command_words.specs.declared.Mast.{Mast}
-use Rattle.command_words.specs.declared.Mast.TheVariants.{At}
 use Rattle.command_words.specs.declared.Request.{Request}
-use Rattle.command_words.specs.declared.Request.TheVariants.{TooFew, TooMany, Fit}
+use Rattle.command_words.specs.declared.WordsError.{WordsError}
+use Rattle.command_words.specs.declared.WordsError.TheVariants.{TooFew, TooMany}
+
+-- what follows from word k, if it is a number
+abbrev if_number : {A : Type 0} → ℕ → Number → (Float → Result A WordsError) → Result A WordsError
+if_number k n next = and_then (numbered k n) next
 
 -- of four words; the first that is no number answers
-abbrev pub mast_before : List ℕ → List ℕ → List ℕ → List ℕ → Mast
+abbrev pub mast_before : List ℕ → List ℕ → List ℕ → List ℕ → Result Mast WordsError
 mast_before x y z i =
-    if_number 1 (number x) (λ a. if_number 2 (number y) (λ b. if_number 3 (number z) (λ c. if_number 4 (number i) (λ d. At (record { x = a; y = b; z = c }) (radians_of d)))))
+    if_number 1 (number x) (λ a. if_number 2 (number y) (λ b. if_number 3 (number z) (λ c. if_number 4 (number i) (λ d. Ok (record { rec_ecef = record { x = a; y = b; z = c }; initial_i = radians_of d })))))
 
 -- the program's name and four numbers, then 1 to 16 files, the first behind the numbers
-abbrev pub request_before : Bool → ℕ → List ℕ → List ℕ → List ℕ → List ℕ → Request
+abbrev pub request_before : Bool → ℕ → List ℕ → List ℕ → List ℕ → List ℕ → Result Request WordsError
 request_before received n x y z i =
-    cond (ltb n 6) TooFew (cond (ltb 21 n) TooMany (Fit (mast_before x y z i) (record { received = received; first = cond received 2 1 + 4; files = n - 5 })))
+    cond (ltb n 6) (Err TooFew) (cond (ltb 21 n) (Err TooMany)
+    (and_then (mast_before x y z i) (λ m. Ok (record { mast = m; layout = record { received = received; first = cond received 2 1 + 4; files = n - 5 } }))))
 
 -- a number is no position line
 number_no_line : (x : List ℕ) → (number x ≡ Err NotANumber → ⊥) → is_line x ≡ false

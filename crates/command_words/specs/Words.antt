@@ -10,14 +10,13 @@ use Rattle.frame.specs.declared.Vec3.{Vec3}
 use Rattle.passes.specs.Text.{until}
 use Rattle.geodetic.specs.Line.{read_position_of}
 use Rattle.refusal.specs.declared.Refusal.{Refusal}
-use Rattle.refusal.specs.Refusals.{number_of}
 use Rattle.decimal.specs.Read.{Number, number}
 use Rattle.decimal.specs.declared.read.NumberError.TheVariants.{NotANumber, TooLong}
 use Rattle.command_words.specs.declared.Layout.{Layout}
 use Rattle.command_words.specs.declared.Mast.{Mast}
-use Rattle.command_words.specs.declared.Mast.TheVariants.{At, NoNumber, LongNumber, NoPlace}
 use Rattle.command_words.specs.declared.Request.{Request}
-use Rattle.command_words.specs.declared.Request.TheVariants.{TooFew, TooMany, Fit}
+use Rattle.command_words.specs.declared.WordsError.{WordsError}
+use Rattle.command_words.specs.declared.WordsError.TheVariants.{TooFew, TooMany, NoNumber, LongNumber, NoPlace}
 
 abbrev pub as_received : List ℕ
 as_received = bytes "--as-received"
@@ -53,33 +52,32 @@ abbrev pub mast_words : Bool → ℕ
 mast_words true = 2
 mast_words false = 4
 
--- what follows from word k, if it is a number
-abbrev pub if_number : ℕ → Number → (Float → Mast) → Mast
-if_number k (Err NotANumber) next = NoNumber k
-if_number k (Ok v) next = next v
-if_number k (Err TooLong) next = LongNumber k
+-- what word k says, if it is a number
+unfoldable pub numbered : ℕ → Number → Result Float WordsError
+numbered k (Err NotANumber) = Err (NoNumber k)
+numbered k (Ok v) = Ok v
+numbered k (Err TooLong) = Err (LongNumber k)
+
+-- what follows from a value, if there is one
+unfoldable pub and_then : {A B : Type 0} → Result A WordsError → (A → Result B WordsError) → Result B WordsError
+and_then (Ok v) next = next v
+and_then (Err e) next = Err e
 
 -- the inclination is in degrees
-abbrev pub inclination_of : Vec3 → Number → Mast
-inclination_of v i = if_number 4 i (λ d. At v (radians_of d))
+abbrev pub inclination_of : Vec3 → Number → Result Mast WordsError
+inclination_of v i = and_then (numbered 4 i) (λ d. Ok (record { rec_ecef = v; initial_i = radians_of d }))
 
-abbrev pub z_of : Float → Float → Number → Number → Mast
-z_of x y z i = if_number 3 z (λ v. inclination_of (place x y v) i)
-
-abbrev pub y_of : Float → Number → Number → Number → Mast
-y_of x y z i = if_number 2 y (λ v. z_of x v z i)
-
-abbrev pub x_of : Number → Number → Number → Number → Mast
-x_of x y z i = if_number 1 x (λ v. y_of v y z i)
+abbrev pub xyz_mast : Number → Number → Number → Number → Result Mast WordsError
+xyz_mast x y z i = and_then (numbered 1 x) (λ a. and_then (numbered 2 y) (λ b. and_then (numbered 3 z) (λ c. inclination_of (place a b c) i)))
 
 -- what a position line and the word behind it say
-abbrev pub line_mast : Result Vec3 Refusal → Number → Mast
+abbrev pub line_mast : Result Vec3 Refusal → Number → Result Mast WordsError
 line_mast (Ok v) i = inclination_of v i
-line_mast (Err r) i = NoPlace (number_of r)
+line_mast (Err r) i = Err (NoPlace r)
 
 -- of four words, or of two where the first is a position line; the first that is wrong answers
-unfoldable pub mast_of : List ℕ → List ℕ → List ℕ → List ℕ → Mast
-mast_of x y z i = cond (is_line x) (line_mast (read_position_of x) (number y)) (x_of (number x) (number y) (number z) (number i))
+unfoldable pub mast_of : List ℕ → List ℕ → List ℕ → List ℕ → Result Mast WordsError
+mast_of x y z i = cond (is_line x) (line_mast (read_position_of x) (number y)) (xyz_mast (number x) (number y) (number z) (number i))
 
 -- the files stand behind the program's name, maybe --as-received, and k words of mast and inclination
 abbrev pub layout_of : Bool → ℕ → ℕ → Layout
@@ -87,10 +85,11 @@ layout_of received k files = record { received = received; first = cond received
 
 -- Of n words, the program's name among them and --as-received not: the name, those of mast and inclination, x y z i or the first two of them, then 1
 -- to 16 files.
-unfoldable pub request_of : Bool → ℕ → List ℕ → List ℕ → List ℕ → List ℕ → Request
+unfoldable pub request_of : Bool → ℕ → List ℕ → List ℕ → List ℕ → List ℕ → Result Request WordsError
 request_of received n x y z i =
     let k = mast_words (is_line x) in
-    cond (ltb n (k + 2)) TooFew (cond (ltb (k + 17) n) TooMany (Fit (mast_of x y z i) (layout_of received k (n - (k + 1)))))
+    cond (ltb n (k + 2)) (Err TooFew) (cond (ltb (k + 17) n) (Err TooMany)
+    (and_then (mast_of x y z i) (λ m. Ok (record { mast = m; layout = layout_of received k (n - (k + 1)) }))))
 
 -- what is true of every request's files (proofs/Counted.antt)
 pub record Few (l : Layout) : Type 0 where

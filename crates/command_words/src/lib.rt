@@ -4,7 +4,8 @@
 
 ghost use Rattle.std.specs.Prelude.{◌≡◌, ◌≤◌};
 ghost use Rattle.decimal.specs.Read.{spells};
-ghost use Rattle.command_words.specs.Words.{as_received, off_ground, is_line, mast_words, layout_of, request_of, mast_of, x_of, y_of, z_of, inclination_of, line_mast};
+ghost use Rattle.decimal.specs.Read as Read;
+ghost use Rattle.command_words.specs.Words.{as_received, off_ground, is_line, mast_words, layout_of, request_of, mast_of, numbered, inclination_of, xyz_mast};
 
 use decimal::read;
 use decimal::read::NumberError;
@@ -34,22 +35,29 @@ pub struct Layout {
     pub files: usize,
 }
 
-// The mast's position in metres and an inclination in radians; or which of X, Y, Z and the inclination, counted from 1, is no number, or
-// is one with too many digits or too large an exponent; or the number by which a position line is refused.
+// The mast's position in metres, and an inclination in radians.
 #[derive(Clone, Copy)]
-pub enum Mast {
-    At(Vec3, f64),
-    NoNumber(usize),
-    LongNumber(usize),
-    NoPlace(u32),
+pub struct Mast {
+    pub rec_ecef: Vec3,
+    pub initial_i: f64,
 }
 
 // What the words ask for.
 #[derive(Clone, Copy)]
-pub enum Request {
+pub struct Request {
+    pub mast: Mast,
+    pub layout: Layout,
+}
+
+// Why they ask for nothing: there are too few or too many; or which of X, Y, Z and the inclination, counted from 1, is no number, or is
+// one with too many digits or too large an exponent; or why a position line is refused.
+#[derive(Clone, Copy, PartialEq, Eq, Debug)]
+pub enum WordsError {
     TooFew,
     TooMany,
-    Fit(Mast, Layout),
+    NoNumber(usize),
+    LongNumber(usize),
+    NoPlace(Refusal),
 }
 
 // A first word with a comma is a position line.
@@ -66,78 +74,50 @@ fn mast_words(line: bool) -> usize
     if line { 2 } else { 4 }
 }
 
-fn inclination_of(v: Vec3, i: Result<f64, NumberError>) -> Mast
-    ensures { result ≡ inclination_of v i }
+// The number that word k says.
+#[tactic(auto, unfolding(crate::specs::Words::numbered))]
+fn number(k: usize, w: &[u8]) -> Result<f64, WordsError>
+    ensures { result ≡ numbered k (Read.number w.now) }
 {
-    match i {
-        Err(NumberError::NotANumber) => Mast::NoNumber(4),
-        Ok(d) => Mast::At(v, float::to_radians(d)),
-        Err(NumberError::TooLong) => Mast::LongNumber(4),
+    match read::parse(w) {
+        Ok(v) => Ok(v),
+        Err(NumberError::NotANumber) => Err(WordsError::NoNumber(k)),
+        Err(NumberError::TooLong) => Err(WordsError::LongNumber(k)),
     }
 }
 
-fn z_of(x: f64, y: f64, z: Result<f64, NumberError>, i: Result<f64, NumberError>) -> Mast
-    ensures { result ≡ z_of x y z i }
+// A mast at this place, with the inclination's word, in degrees.
+fn inclined(rec_ecef: Vec3, i: &[u8]) -> Result<Mast, WordsError>
+    ensures { result ≡ inclination_of rec_ecef (Read.number i.now) }
 {
-    match z {
-        Err(NumberError::NotANumber) => Mast::NoNumber(3),
-        Ok(v) => inclination_of(Vec3 { x, y, z: v }, i),
-        Err(NumberError::TooLong) => Mast::LongNumber(3),
-    }
+    let degrees = number(4, i)?;
+    Ok(Mast {
+        rec_ecef,
+        initial_i: float::to_radians(degrees),
+    })
 }
 
-fn y_of(
-    x: f64,
-    y: Result<f64, NumberError>,
-    z: Result<f64, NumberError>,
-    i: Result<f64, NumberError>,
-) -> Mast
-    ensures { result ≡ y_of x y z i }
+// A mast by X, Y and Z.
+fn by_numbers(x: &[u8], y: &[u8], z: &[u8], i: &[u8]) -> Result<Mast, WordsError>
+    ensures { result ≡ xyz_mast (Read.number x.now) (Read.number y.now) (Read.number z.now) (Read.number i.now) }
 {
-    match y {
-        Err(NumberError::NotANumber) => Mast::NoNumber(2),
-        Ok(v) => z_of(x, v, z, i),
-        Err(NumberError::TooLong) => Mast::LongNumber(2),
-    }
-}
-
-fn x_of(
-    x: Result<f64, NumberError>,
-    y: Result<f64, NumberError>,
-    z: Result<f64, NumberError>,
-    i: Result<f64, NumberError>,
-) -> Mast
-    ensures { result ≡ x_of x y z i }
-{
-    match x {
-        Err(NumberError::NotANumber) => Mast::NoNumber(1),
-        Ok(v) => y_of(v, y, z, i),
-        Err(NumberError::TooLong) => Mast::LongNumber(1),
-    }
-}
-
-// A position line's answer, and the inclination.
-fn line_of(p: Result<Vec3, Refusal>, i: Result<f64, NumberError>) -> Mast
-    ensures { result ≡ line_mast p i }
-{
-    match p {
-        Ok(v) => inclination_of(v, i),
-        Err(r) => Mast::NoPlace(r.number()),
-    }
+    let x = number(1, x)?;
+    let y = number(2, y)?;
+    let z = number(3, z)?;
+    inclined(Vec3 { x, y, z }, i)
 }
 
 // What the first four words say, or, where the first is a position line, the first two; the first that is wrong answers.
-fn mast_of(x: &[u8], y: &[u8], z: &[u8], i: &[u8]) -> Mast
+fn mast_of(x: &[u8], y: &[u8], z: &[u8], i: &[u8]) -> Result<Mast, WordsError>
     ensures { result ≡ mast_of x.now y.now z.now i.now }
 {
-    if is_line(x) {
-        return line_of(geodetic::line::read_position(x), read::parse(y));
+    if !is_line(x) {
+        return by_numbers(x, y, z, i);
     }
-    let vx = read::parse(x);
-    let vy = read::parse(y);
-    let vz = read::parse(z);
-    let vi = read::parse(i);
-    x_of(vx, vy, vz, vi)
+    match geodetic::line::read_position(x) {
+        Ok(v) => inclined(v, y),
+        Err(refusal) => Err(WordsError::NoPlace(refusal)),
+    }
 }
 
 // Where the files stand, behind k words of mast and inclination.
@@ -154,16 +134,24 @@ fn layout_of(received: bool, k: usize, files: usize) -> Layout
 }
 
 // Of so many words, the program's own name among them and --as-received not, of which x, y, z and i follow the name.
-pub fn request_of(received: bool, words: usize, x: &[u8], y: &[u8], z: &[u8], i: &[u8]) -> Request
+pub fn request_of(
+    received: bool,
+    words: usize,
+    x: &[u8],
+    y: &[u8],
+    z: &[u8],
+    i: &[u8],
+) -> Result<Request, WordsError>
     ensures { result ≡ request_of received words x.now y.now z.now i.now }
 {
     let k = mast_words(is_line(x));
     if words < k + 2 {
-        return Request::TooFew;
+        return Err(WordsError::TooFew);
     }
     if k + 17 < words {
-        return Request::TooMany;
+        return Err(WordsError::TooMany);
     }
     let layout = layout_of(received, k, words - (k + 1));
-    Request::Fit(mast_of(x, y, z, i), layout)
+    let mast = mast_of(x, y, z, i)?;
+    Ok(Request { mast, layout })
 }

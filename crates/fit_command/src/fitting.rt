@@ -70,9 +70,9 @@ fn biases(
 ) {
     let received = layout.received;
     let first = layout.first;
-    for p in 0..order.len() {
+    for (p, file) in order.iter().enumerate() {
         let b = report::biases_of(counts, p, dts, dfs, df1s, df2s);
-        messages::pass(rt, stderr, word_of(order[p], first), turned(received, b));
+        messages::pass(rt, stderr, word_of(*file, first), turned(received, b));
     }
 }
 
@@ -90,13 +90,14 @@ fn tell_noise(stderr: Stderr, rms: f64, counts: &[u32], times: &[i64], freqs: &[
     );
 }
 
-// Why there is no fit; `nan` is the first file with a frequency that is not a number.
-fn fit_refused(rt: &impl Env, stderr: Stderr, k: u32, first: usize, nan: usize) {
-    if k == refusal::NAN_FREQUENCY {
-        messages::file_refusal(rt, stderr, word_of(nan, first), k);
-        return;
+// Why there is no fit; `nan` is the first file with a frequency that is not a number, if there is one.
+fn fit_refused(rt: &impl Env, stderr: Stderr, k: u32, first: usize, nan: Option<usize>) {
+    match nan {
+        Some(i) if k == refusal::NAN_FREQUENCY => {
+            messages::file_refusal(rt, stderr, word_of(i, first), k);
+        }
+        _ => messages::refusal(stderr, k),
     }
-    messages::refusal(stderr, k);
 }
 
 // The report of an accepted fit, or why there is none.
@@ -104,7 +105,7 @@ fn report(
     rt: &impl Env,
     stderr: Stderr,
     layout: Layout,
-    nan: usize,
+    nan: Option<usize>,
     order: &[usize],
     d: Determination,
     counts: &[u32],
@@ -142,7 +143,7 @@ fn solve(
     stdout: Stdout,
     stderr: Stderr,
     layout: Layout,
-    nan: usize,
+    nan: Option<usize>,
     counts: &[u32],
     times: &[i64],
     freqs: &mut [f64],
@@ -216,7 +217,7 @@ fn fit(
     stdout: Stdout,
     stderr: Stderr,
     layout: Layout,
-    nan: usize,
+    nan: Option<usize>,
     counts: &[u32],
     times: &[i64],
     freqs: &mut [f64],
@@ -290,7 +291,7 @@ pub fn check_and_fit(
     requires { Sizes counts.now (length times.now) (length freqs.old) (length centers.now) }
 {
     tell_twins(rt, stderr, layout.first, counts, times, freqs);
-    let nan = pass_checks::nan_pass(counts, freqs).unwrap_or(counts.len());
+    let nan = pass_checks::nan_pass(counts, freqs);
     fit(
         rt, stdout, stderr, layout, nan, counts, times, freqs, centers, rec_ecef, initial_i, name,
     )

@@ -8,8 +8,7 @@ ghost use Rattle.std.specs.Prelude.{◌≤◌};
 ghost use Rattle.std.specs.Counts.{IsPrefixLen};
 ghost use Rattle.command_words.specs.Words.{Few};
 
-use command_words::{Layout, Mast, Request};
-use frame::Vec3;
+use command_words::{Request, WordsError};
 use std::env::{Env, FillError};
 use std::io;
 use std::io::{Stderr, Stdout};
@@ -20,12 +19,11 @@ fn fit_files<R: Files + Env>(
     rt: &R,
     stdout: Stdout,
     stderr: Stderr,
-    layout: Layout,
-    rec_ecef: Vec3,
-    initial_i: f64,
+    request: Request,
 ) -> io::Result<()>
-    requires { Few layout }
+    requires { Few request.layout }
 {
+    let layout = request.layout;
     let first = layout.first;
     let n = layout.files;
     let mut counts = [0u32; 16];
@@ -33,7 +31,7 @@ fn fit_files<R: Files + Env>(
     let mut freqs = [0.0f64; 4096];
     let mut centers = [0.0f64; 16];
     let mut name = [0u8; 256];
-    let g = pass_files::gather_files(
+    let Some(g) = pass_files::gather_files(
         rt,
         stderr,
         first,
@@ -43,14 +41,12 @@ fn fit_files<R: Files + Env>(
         &mut freqs,
         &mut centers,
         &mut name,
-    );
-    if g.failed {
+    ) else {
         return Ok(());
-    }
+    };
     let p = g.passes;
     let s = g.samples;
-    let kept = g.name;
-    let size = kept.size;
+    let size = g.name.size;
     if size == 0 {
         messages::empty_name(stderr);
     }
@@ -63,8 +59,8 @@ fn fit_files<R: Files + Env>(
         &times[..s],
         &mut freqs[..s],
         &centers[..p],
-        rec_ecef,
-        initial_i,
+        request.mast.rec_ecef,
+        request.mast.initial_i,
         &name[..size],
     )
 }
@@ -73,10 +69,7 @@ fn fit_files<R: Files + Env>(
 fn word(rt: &impl Env, i: usize, out: &mut [u8]) -> usize
     ensures { IsPrefixLen result out.new }
 {
-    match rt.arg(i, out) {
-        Ok(n) => n,
-        Err(_) => 0,
-    }
+    rt.arg(i, out).unwrap_or(0)
 }
 
 // The same of the word that may be a position line; of one that is too long, as much as finds room: more than any number or position line that
@@ -91,26 +84,15 @@ fn first_word(rt: &impl Env, i: usize, out: &mut [u8]) -> usize
     }
 }
 
-// The mast, then the files.
-fn fit_mast<R: Files + Env>(
-    rt: &R,
-    stdout: Stdout,
-    stderr: Stderr,
-    m: Mast,
-    layout: Layout,
-) -> io::Result<()>
-    requires { Few layout }
-{
-    match m {
-        Mast::At(rec_ecef, initial_i) => {
-            messages::position(stderr, rec_ecef);
-            return fit_files(rt, stdout, stderr, layout, rec_ecef, initial_i);
-        }
-        Mast::NoNumber(k) => messages::no_number(stderr, k),
-        Mast::LongNumber(k) => messages::long_number(stderr, k),
-        Mast::NoPlace(k) => messages::no_place(stderr, k),
+// Why the words ask for nothing.
+fn tell(stderr: Stderr, error: WordsError) {
+    match error {
+        WordsError::TooFew => messages::usage(stderr),
+        WordsError::TooMany => messages::too_many(stderr),
+        WordsError::NoNumber(k) => messages::no_number(stderr, k),
+        WordsError::LongNumber(k) => messages::long_number(stderr, k),
+        WordsError::NoPlace(refusal) => messages::no_place(stderr, refusal.number()),
     }
-    Ok(())
 }
 
 // Of so many words, the program's name among them and `--as-received` not, of which the mast's first is word k. A position line has 256 bytes at
@@ -142,11 +124,15 @@ fn words_from<R: Files + Env>(
         &i[..ni],
     );
     match request {
-        Request::TooFew => messages::usage(stderr),
-        Request::TooMany => messages::too_many(stderr),
-        Request::Fit(m, layout) => return fit_mast(rt, stdout, stderr, m, layout),
+        Ok(r) => {
+            messages::position(stderr, r.mast.rec_ecef);
+            fit_files(rt, stdout, stderr, r)
+        }
+        Err(error) => {
+            tell(stderr, error);
+            Ok(())
+        }
     }
-    Ok(())
 }
 
 // Whether the first word says that frequencies are as received.
