@@ -1,10 +1,10 @@
 -- `prepare` meets its contract. Assumes nothing.
-use Rattle.probes.proofs.Calls.{counted, counted_dated}
-use borrow.Author.Rules.{rules}
+use native.Mathlib.Omega.{arith}
+use Rattle.probes.proofs.Calls.{dated, counted_length}
 use Rattle.probes.proofs.prepare.Goals as goal
 
 pub rotations-requires : goal.rotations-requires
-rotations-requires c = (counted_dated _ _ c.requires.0 (search rules) c.counts_at.ensures, search rules, search rules)
-
-pub returns : goal.returns
-returns c = record { counts = counted _ _ (search rules) c.counts_at.ensures; rotations = c.rotations.ensures }
+rotations-requires c =
+    let e = c.counts_at.ensures in
+    let same = counted_length _ _ e in
+    (dated _ _ c.requires.0 e, omega (arith, same, c.requires.1), omega (arith, same, c.requires.3))

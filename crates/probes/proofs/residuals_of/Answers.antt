@@ -1,25 +1,35 @@
 -- `residuals_of` meets its contract. Assumes nothing.
-use mathlib.Core.Path.{sym, ◌∙◌}
-use Rattle.probes.proofs.Calls.{taken, sums_refused}
-use lib.Dec.{lit≤}
-use Rattle.moment.proofs.Samples.{within_sound}
-use borrow.Author.Rules.{rules}
+use mathlib.Core.Path.{sym}
+use Prim.Native.Nat.{◌≤◌}
+use native.Mathlib.Omega.{arith}
+use lib.Seq.{length-take-le}
+use Rattle.refusal.proofs.Lists.{accepted}
+use Rattle.probes.proofs.Calls.{taken, held, counted_length}
 use Rattle.probes.proofs.residuals_of.Goals as goal
 
-pub returns-then-refusal-ne0 : goal.returns-then-refusal-ne0
-returns-then-refusal-ne0 c = rw (← c.refusal_of-refusal.ensures) (sums_refused _ _ _ c.if-refusal-ne0.true)
+pub prepare-requires : goal.prepare-requires
+prepare-requires g c =
+    let t = taken _ _ _ _ _ _ (accepted _ _ _ c.in_ok-accept.ensures).0 in
+    (t.timed, t.sizes.small, omega (arith, t.sizes.small), omega (arith, t.sizes.small))
 
-pub station-station-requires : goal.station-station-requires
-station-station-requires c = (taken _ _ _ _ _ _ (sym c.refusal_of-refusal.ensures ∙ c.if-refusal-ne0.false)).timed
+pub station-requires : goal.station-requires
+station-requires g c = (taken _ _ _ _ _ _ (accepted _ _ _ c.in_ok-accept.ensures).0).timed
 
-pub sum_in-requires : goal.sum_in-requires
-sum_in-requires c =
-    let ok = taken _ _ _ _ _ _ (sym c.refusal_of-refusal.ensures ∙ c.if-refusal-ne0.false) in (
-      record { timed = ok.timed; agree = ok.agree; small = ok.small; places = search rules; pairs = search rules },
-      within_sound 0 _ _ (lit≤ tt) c.station-station.ensures.1,
-      ok.enough,
-    )
+pub invariant_of-obs : goal.invariant_of-obs
+invariant_of-obs g c =
+    let t = taken _ _ _ _ _ _ (accepted _ _ _ c.in_ok-accept.ensures).0 in
+    record { held = held _ _ _ t c.station.ensures.1 c.prepare.ensures }
 
-pub returns : goal.returns
-returns c =
-    rw (sym c.refusal_of-refusal.ensures ∙ c.if-refusal-ne0.false) (rw c.station-station.ensures.0 at c.sum_in.ensures)
+pub slice_bounds-moments-end : goal.slice_bounds-moments-end
+slice_bounds-moments-end g c =
+    let t = taken _ _ _ _ _ _ (accepted _ _ _ c.in_ok-accept.ensures).0 in
+    omega (arith, t.sizes.small, c.prepare.auto.moments)
+
+pub slice_bounds-obs-end : goal.slice_bounds-obs-end
+slice_bounds-obs-end g c = sym (counted_length _ _ c.prepare.ensures.counts)
+
+pub put-requires : goal.put-requires
+put-requires g c =
+    let t = taken _ _ _ _ _ _ (accepted _ _ _ c.in_ok-accept.ensures).0 in
+    let rows : c.rows.result ≤ 4144 = omega (arith, c.rows.ensures.1, counted_length _ _ c.prepare.ensures.counts, t.sizes.small, t.sizes.few) in
+    rw (length-take-le c.rows.result c.penalised_sum.new.out (omega (arith, rows, c.penalised_sum.auto.out))) (omega (arith, rows, t.enough))

@@ -1,34 +1,32 @@
 -- `turned` meets its contract. Assumes nothing.
-use mathlib.Core.Path.{sym, ◌∙◌}
+use native.Mathlib.Nat.{le_trans}
 use native.Mathlib.Omega.{arith}
-use borrow.Author.Rules.{rules}
-use Rattle.residuals.specs.Samples.{passes_of}
-use Rattle.probes.proofs.Calls.{samples_of_lem, fits_of, held_of, trial_ended, trial_followed}
+use Rattle.residuals.specs.Answers.{passes_in}
+use Rattle.residuals.proofs.Laws.{flag}
+use Rattle.probes.proofs.Calls.{cells_few, held_of, trial_ended, trial_followed}
 use Rattle.probes.proofs.turned.Goals as goal
 
 pub trial-t-requires : goal.trial-t-requires
-trial-t-requires c =
-    let p = c.requires in
-    (samples_of_lem _ _ _ _ _ p.0 p.1 p.2, search rules)
+trial-t-requires g c = omega (arith, c.args.obs.now.held.few, c.args.obs.now.held.small)
 
-pub returns-then-not-running : goal.returns-then-not-running
-returns-then-not-running c =
+pub returns-in_default : goal.returns-in_default
+returns-in_default g c =
     let a = c.args in
-    trial_ended a.second a.g (passes_of a.counts.now a.times.now a.freqs.now) _ _ c.trial-t.ensures.after (sym c.running.ensures ∙ c.if-not-running.true)
+    trial_ended (flag g.row.SECOND) a.obs.now.station (passes_in a.obs.now) _ _ c.trial-t.ensures.after c.in_default.not-Running
 
-pub follow-f-requires : goal.follow-f-requires
-follow-f-requires c =
+pub follow-requires : goal.follow-requires
+follow-requires g c =
     let a = c.args in
-    let p = c.requires in (
-      fits_of _ _ _ _ _ _ _ (samples_of_lem _ _ _ _ _ p.0 p.1 p.2) p.3,
+    let h = a.obs.now.held in (
+      le_trans (cells_few (flag g.row.SECOND) (passes_in a.obs.now) h.few h.small) c.requires,
       record {
-        room = omega (arith, p.0.few, p.0.small, c.trial-t.auto.r);
-        held = λ k. held_of a.second a.g (passes_of a.counts.now a.times.now a.freqs.now) _ _ _ c.trial-t.ensures k;
+        room = omega (arith, h.few, h.small, c.trial-t.auto.r);
+        held = λ k. held_of (flag g.row.SECOND) a.obs.now.station (passes_in a.obs.now) _ _ _ c.trial-t.ensures k;
       },
     )
 
 pub returns : goal.returns
-returns c =
+returns g c =
     let a = c.args in
-    trial_followed a.second a.g (passes_of a.counts.now a.times.now a.freqs.now) _ _ c.trial-t.ensures.after _ _ _ c.place_of.ensures.0 c.rows_of.ensures.0
-    (sym c.running.ensures ∙ c.if-not-running.false) c.follow-f.ensures.arrives.after
+    trial_followed (flag g.row.SECOND) a.obs.now.station (passes_in a.obs.now) _ _ c.trial-t.ensures.after _ _ _ c.place_of.ensures.0 c.rows.ensures.0
+    c.in-Running.is c.follow.ensures.arrives.after
