@@ -13,6 +13,7 @@ ghost use Rattle.probes_c.specs.Exported.{SearchesTo, SumsTo, search_at, ending_
 
 use book::Ending;
 use frame::Vec3;
+use probes::Given;
 use trials::State;
 
 // raan0, u0 and their sum. The table has 48,032 places or more.
@@ -34,21 +35,14 @@ pub extern "C" fn wisvalom_search_starts(
         (search_of (fixed_sum counts.now times.now freqs.now centers.now (fixed_of times.now centers.now (place x y z) a i)) 0 144)
         table.old table.new out.old out.new result }
 {
-    let answer = probes::search_starts(
-        counts,
-        times,
-        freqs,
-        centers,
-        Vec3 { x, y, z },
-        a,
-        i,
-        table,
-    );
-    if answer.refusal != 0 {
-        return answer.refusal;
+    let p = Vec3 { x, y, z };
+    match probes::search_starts(counts, times, freqs, centers, p, a, i, table) {
+        Ok(found) => {
+            *out = [found.raan0, found.u0, found.rss];
+            0
+        }
+        Err(r) => r.number(),
     }
-    *out = [answer.raan0, answer.u0, answer.rss];
-    0
 }
 
 // A set of parameters has 68 places, of which a refinement reads its first; out has 4,144 or more.
@@ -70,21 +64,19 @@ pub extern "C" fn wisvalom_residuals(
         (residuals second (station_of times.now center_freq (place x y z)) (samples_of counts.now times.now freqs.now) params.now)
         out.old out.new sum.old sum.new result }
 {
-    let answer = probes::residuals_of(
-        second,
+    let given = Given {
         counts,
         times,
         freqs,
         center_freq,
-        Vec3 { x, y, z },
-        *params,
-        out,
-    );
-    if answer.refusal != 0 {
-        return answer.refusal;
-    }
-    *sum = answer.sum;
-    0
+        rec_ecef: Vec3 { x, y, z },
+    };
+    let answer = if second {
+        probes::residuals_of::<true>(&given, *params, out)
+    } else {
+        probes::residuals_of::<false>(&given, *params, out)
+    };
+    refusal::report(answer, sum)
 }
 
 fn ending_number(e: Ending) -> u32
@@ -101,11 +93,11 @@ fn ending_number(e: Ending) -> u32
 
 // From the state in the first four to the one after a trial, with why it ended. Scratch has 281,792 places or more.
 #[unsafe(no_mangle)]
-pub extern "C" fn wisvalom_trial(
+pub extern "C" fn wisvalom_trial<'a>(
     second: bool,
-    counts: &[u32],
-    times: &[i64],
-    freqs: &[f64],
+    counts: &'a [u32],
+    times: &'a [i64],
+    freqs: &'a [f64],
     center_freq: f64,
     x: f64,
     y: f64,
@@ -124,35 +116,36 @@ pub extern "C" fn wisvalom_trial(
         (search_at params.old best_params.old damping.old best.old)
         (search_at params.new best_params.new damping.new best.new) ended.old ended.new result }
 {
-    let p = *params;
-    let q = *best_params;
-    let answer = probes::trial(
-        second,
+    let given = Given {
         counts,
         times,
         freqs,
         center_freq,
-        Vec3 { x, y, z },
-        State {
-            params: p,
-            best_params: q,
-            damping: *damping,
-            best: *best,
-            ended: Ending::Running,
-        },
-        scratch,
-    );
-    if answer.refusal != 0 {
-        return answer.refusal;
+        rec_ecef: Vec3 { x, y, z },
+    };
+    let s = State {
+        params: *params,
+        best_params: *best_params,
+        damping: *damping,
+        best: *best,
+        ended: Ending::Running,
+    };
+    let answer = if second {
+        probes::trial::<true>(&given, s, scratch)
+    } else {
+        probes::trial::<false>(&given, s, scratch)
+    };
+    match answer {
+        Ok(after) => {
+            let next = after.params;
+            let kept = after.best_params;
+            *params = next;
+            *best_params = kept;
+            *damping = after.damping;
+            *best = after.best;
+            *ended = ending_number(after.ended);
+            0
+        }
+        Err(r) => r.number(),
     }
-    let after = answer.state;
-    let e = after.ended;
-    let next = after.params;
-    let kept = after.best_params;
-    *params = next;
-    *best_params = kept;
-    *damping = after.damping;
-    *best = after.best;
-    *ended = ending_number(e);
-    0
 }
