@@ -100,7 +100,7 @@ fn search(
     answer: &[u8],
 ) -> bool {
     let mut table = rooms::search();
-    let r = probes::search_starts(
+    let best = probes::search_starts(
         counts,
         times,
         freqs,
@@ -110,8 +110,7 @@ fn search(
         answer_lines::float(fields, 4),
         &mut table,
     );
-    answer_lines::refused(answer, r.refusal)
-        && (r.refusal != 0 || found(answer, &[r.raan0, r.u0, r.rss]))
+    answer_lines::result_is(answer, best, |b| found(answer, &[b.raan0, b.u0, b.rss]))
 }
 
 // The line asked with its set; `rest` are the fields after it.
