@@ -1,16 +1,13 @@
 -- Walking a line, and cutting parts out of it. Assumes nothing.
 use mathlib.Core.Path.{◌≡◌, refl, sym, ap, ◌∙◌, subst}
-use mathlib.Core.Bool.{Bool, true, false, not, ◌&&◌, ◌||◌, cond}
+use mathlib.Core.Bool.{Bool, true, false, ◌&&◌, ◌||◌, cond}
 use mathlib.Core.List.{List, [], ◌∷◌}
 use Prim.Native.Nat.{ℕ, suc, ◌+◌, ◌-◌, ◌*◌, ◌≤◌, ◌<◌, min}
 use native.Mathlib.Nat.{le_of_lt, min-eq_left, min-eq_right}
 use native.Mathlib.Omega.{arith}
 use lib.Dec.{eqb, ltb}
-use Rattle.std.proofs.Common.{Option, Some, None}
-use Rattle.std.specs.Option.{unwrap_or}
 use Rattle.std.specs.Cmp.Lexicographic.{pointwise}
-use Rattle.std.specs.List.{position_or_len, range_with_len, list_any, list_all, enumerate_from}
-use Rattle.std.proofs.lemmas.List.Sums.{prefix_len-le-length}
+use Rattle.std.specs.List.{range_with_len, list_any, list_all, enumerate_from}
 use lib.ListN.{length, get_or, set, take, drop, length-set, drop_of_length-le}
 use lib.Seq.{get_or-set_same, get_or-set_other}
 use lib.IntN.{ℤ, pos}
@@ -18,29 +15,6 @@ use lib.Ieee.{Float, nan}
 use borrow.Author.Tests.{eq-eqb, ne_eqb, eqb-true, eqb-false, ltb-true, ltb-false, lt-ltb, le-ltb}
 use Rattle.laws.proofs.Lists.{rest}
 use Rattle.answer_lines.specs.Lines.{first_place, begins_with, line_word, occurs, OnlyWords, asked_fields, fields_from, after_list, field_at, float_field, count_field, signed_field, every, same_list, FilledBy, ReadsSet}
-
--- ---- the first place of a byte
-
-place_is : (b : ℕ) (l : List ℕ) → first_place b l ≡ position_or_len (λ (c : ℕ). eqb c b) l
-unfolding first_place
-place_is b [] = refl
-place_is b (c ∷ l) = go (eqb c b) (place_is b l)
-  where
-    go : (x : Bool) → first_place b l ≡ position_or_len (λ (c : ℕ). eqb c b) l → cond x 0 (suc (first_place b l)) ≡ cond (not x) (1 + position_or_len (λ (c : ℕ). eqb c b) l) 0
-    go true h = refl
-    go false h = omega arith
-
--- what `position` answers, or else the length
-pub found : (b : ℕ) (l : List ℕ) (r : Option ℕ) {k : ℕ} → r ≡ cond (ltb (position_or_len (λ (c : ℕ). eqb c b) l) (length l)) (Some (position_or_len (λ (c : ℕ). eqb c b) l)) None → k ≡ unwrap_or r (length l) → (k ≡ first_place b l) × (k ≤ length l)
-found b l r {k = k} e f =
-    let n = position_or_len (λ (c : ℕ). eqb c b) l in
-    let most = prefix_len-le-length (λ (c : ℕ). not (eqb c b)) l in
-    let is : k ≡ n = f ∙ ap (λ (o : Option ℕ). unwrap_or o (length l)) e ∙ go n most (ltb n (length l)) refl in
-    (is ∙ sym (place_is b l), omega arith)
-  where
-    go : (n : ℕ) → n ≤ length l → (x : Bool) → ltb n (length l) ≡ x → unwrap_or (cond x (Some n) None) (length l) ≡ n
-    go n h true q = refl
-    go n h false q = let k = ltb-false n (length l) q in omega arith
 
 -- ---- a name at the beginning, and in a table
 

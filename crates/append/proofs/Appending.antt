@@ -1,16 +1,16 @@
 -- The laws of what is put into a buffer piece after piece. Assumes nothing.
 use mathlib.Core.Path.{◌≡◌, refl, sym, ap, ◌∙◌, subst}
 use mathlib.Core.Bool.{Bool, true, false, not, cond}
-use mathlib.Core.List.{List, [], ◌∷◌, ◌++◌, append_assoc}
+use mathlib.Core.List.{List, [], ◌∷◌, ◌++◌}
 use Prim.Native.Nat.{ℕ, zero, suc, ◌+◌, ◌-◌, ◌^◌, ◌≤◌, ◌<◌, min}
 use native.Mathlib.Nat.{min-eq_left, min-eq_right, le_of_lt}
 use native.Mathlib.Omega.{arith}
 use lib.Dec.{T, leb, ltb, ltb→lt, nltb→le}
 use lib.ListN.{length, take, drop, take-append-drop, length-append}
-use lib.Seq.{sets, set_out, sets-eq, length-sets, drop-drop, take_all, length-take-le}
+use lib.Seq.{sets, set_out, length-sets, take_all, length-take-le}
 use borrow.Rule.Slice.PartMut.{put_mid}
-use borrow.Author.Tests.{le-leb, lt-leb}
 use Rattle.laws.proofs.Lists.{sets_append}
+use Rattle.laws.proofs.Places.{put_back}
 use Rattle.decimal.specs.Fixed.{digit_at}
 use Rattle.append.specs.declared.Text.{Text}
 use Rattle.append.specs.Append.{Appends, Begins, Puts, leading_of, digits_from, numeral}
@@ -85,14 +85,6 @@ pub goes_on : {a b whole : List ℕ} {t u t₀ : Text} → Rest (a ++ b) t whole
 goes_on r f = record { gives = λ g. r.gives (both f g) }
 
 -- ---- one piece, as far as there is room
-
--- a part of the buffer, given back with its values
-put_back : (o v : List ℕ) (s n : ℕ) → length v ≡ n → s + n ≤ length o → put_mid s (s + n - s) o v ≡ sets o s v
-put_back o v s n e h =
-    let k : s + (s + n - s) ≡ s + length v = omega (arith, e) in
-    ap (λ (r : List ℕ). take s o ++ (v ++ r)) (drop-drop (s + n - s) s o ∙ ap (λ (j : ℕ). drop j o) k)
-    ∙ sym (append_assoc (take s o) v (drop (s + length v) o))
-    ∙ sym (sets-eq v o s (omega (arith, e, h)))
 
 -- what finds room is all that is stored
 fits_in : (t o : List ℕ) (i : ℕ) {n : ℕ} → i ≤ length o → n ≡ min (length t) (length o - i) → sets o i (take n t) ≡ sets o i t

@@ -3,3 +3,4 @@ pub mod Numbers
 pub mod Lists
 pub mod Signed
 pub mod Floats
+pub mod Places

@@ -1,23 +1,21 @@
 -- Lines, blanks and bytes of a list, one byte on. Assumes nothing.
 use mathlib.Core.Path.{◌≡◌, refl, sym, ap, ◌∙◌, subst}
-use mathlib.Core.Bool.{Bool, true, false, not, ◌&&◌, cond}
+use mathlib.Core.Bool.{Bool, true, false, ◌&&◌, cond}
 use mathlib.Core.List.{List, [], ◌∷◌, ◌++◌}
 use Prim.Native.Nat.{ℕ, zero, suc, ◌+◌, ◌-◌, ◌≤◌, ◌<◌}
 use native.Mathlib.Omega.{arith}
-use lib.Dec.{leb, ltb, eqb}
-use Rattle.std.proofs.Common.{Option, Some, None}
-use Rattle.std.specs.Option.{unwrap_or}
+use lib.Dec.{leb}
 use lib.ListN.{length, get_or, take, drop, length-drop}
 use lib.Seq.{take-suc, take-length, length-take-le}
-use borrow.Author.Tests.{le-leb, lt-leb, ltb-false}
+use borrow.Author.Tests.{le-leb, lt-leb}
 use Rattle.std.specs.Bool.{MatchBool}
 use Rattle.std.specs.Str.{IsAscii, IsNotAscii}
-use Rattle.std.specs.List.{prefix_len, position_or_len, suffix_len}
+use Rattle.std.specs.List.{prefix_len, suffix_len}
 use Rattle.std.proofs.lemmas.List.Recursion.{and_is}
-use Rattle.std.proofs.lemmas.List.Sums.{prefix_len-le-length, suffix_len-take_yes, suffix_len-take_no}
+use Rattle.std.proofs.lemmas.List.Sums.{suffix_len-take_yes, suffix_len-take_no}
 use Rattle.decimal.proofs.Scan.{present}
 use Rattle.laws.proofs.Lists.{rest}
-use Rattle.passes.specs.Text.{blank, blanks, keep_trimmed, trim_end, trim, until, ascii, Trimmed, Blanks, TrimsTo, Until}
+use Rattle.passes.specs.Text.{blank, blanks, keep_trimmed, trim_end, trim, ascii, Trimmed, Blanks, TrimsTo}
 
 -- ---- as the library counts and tests them
 
@@ -25,27 +23,6 @@ pub blanks_is : (l : List ℕ) → blanks l ≡ prefix_len blank l
 unfolding blanks
 blanks_is [] = refl
 blanks_is (c ∷ l) = ap (λ (n : ℕ). cond (blank c) n 0) (let h = blanks_is l in omega arith)
-
-pub until_is : (b : ℕ) (l : List ℕ) → until b l ≡ position_or_len (λ (c : ℕ). eqb c b) l
-unfolding until
-until_is b [] = refl
-until_is b (c ∷ l) = go (eqb c b) (until_is b l)
-  where
-    go : (x : Bool) → until b l ≡ position_or_len (λ (c : ℕ). eqb c b) l → cond x 0 (suc (until b l)) ≡ cond (not x) (1 + position_or_len (λ (c : ℕ). eqb c b) l) 0
-    go true h = refl
-    go false h = omega arith
-
--- what `position` answers, or else the length
-pub until_found : (b : ℕ) (l : List ℕ) (r : Option ℕ) {k : ℕ} → r ≡ cond (ltb (position_or_len (λ (c : ℕ). eqb c b) l) (length l)) (Some (position_or_len (λ (c : ℕ). eqb c b) l)) None → k ≡ unwrap_or r (length l) → Until b l k
-until_found b l r {k = k} e f =
-    let n = position_or_len (λ (c : ℕ). eqb c b) l in
-    let most = prefix_len-le-length (λ (c : ℕ). not (eqb c b)) l in
-    let is : k ≡ n = f ∙ ap (λ (o : Option ℕ). unwrap_or o (length l)) e ∙ go n most (ltb n (length l)) refl in
-    record { inside = omega arith; is = is ∙ sym (until_is b l) }
-  where
-    go : (n : ℕ) → n ≤ length l → (x : Bool) → ltb n (length l) ≡ x → unwrap_or (cond x (Some n) None) (length l) ≡ n
-    go n h true q = refl
-    go n h false q = let k = ltb-false n (length l) q in omega arith
 
 -- what `is_ascii` answers
 pub ascii_told : (r : Bool) (l : List ℕ) → MatchBool r (IsAscii l) (IsNotAscii l) → r ≡ ascii l

@@ -1,13 +1,13 @@
 -- `decimal::fixed::fill` meets its contract: what is still to be stored, on what is stored, is the whole. Assumes nothing.
 use mathlib.Core.Path.{◌≡◌, refl, sym, ap, ◌∙◌}
-use mathlib.Core.List.{List, ◌++◌, append-nil, append_assoc}
+use mathlib.Core.List.{List, ◌++◌, append-nil}
 use Prim.Native.Nat.{ℕ, zero, suc, ◌+◌, ◌-◌, ◌≤◌, ◌<◌}
 use native.Mathlib.Nat.{sub-zero}
 use native.Mathlib.Numerals.{add-one}
 use native.Mathlib.Omega.{arith}
 use lib.ListN.{length, set, take, drop, length-set, length-drop, drop_of_length-le}
-use lib.Seq.{sets, sets-eq, drop-drop, length-take-le}
-use borrow.Rule.Slice.PartMut.{put_mid}
+use lib.Seq.{sets, sets-eq, length-take-le}
+use Rattle.laws.proofs.Places.{put_back}
 use Rattle.decimal.specs.Fixed.{fixed_text, cell_at}
 use Rattle.decimal.proofs.fixed.fill.Goals as goal
 
@@ -30,14 +30,6 @@ sets_all vs out e = sets-eq vs out 0 (omega arith) ∙ ap (λ (r : List ℕ). vs
 -- the columns that are lent
 part_length : (out : List ℕ) (at w : ℕ) → at + w ≤ length out → length (take (at + w - at) (drop at out)) ≡ w
 part_length out at w h = length-take-le (at + w - at) (drop at out) (omega (arith, length-drop at out)) ∙ omega arith
-
--- and given back
-put_back : (out vs : List ℕ) (at w : ℕ) → length vs ≡ w → at + w ≤ length out → put_mid at (at + w - at) out vs ≡ sets out at vs
-put_back out vs at w e h =
-    let n : at + (at + w - at) ≡ at + length vs = omega arith in
-    ap (λ (r : List ℕ). take at out ++ (vs ++ r)) (drop-drop (at + w - at) at out ∙ ap (λ (k : ℕ). drop k out) n)
-    ∙ sym (append_assoc (take at out) vs (drop (at + length vs) out))
-    ∙ sym (sets-eq vs out at (omega arith))
 
 begun : (out : List ℕ) (pad p n w : ℕ) → length out ≡ w → sets out 0 (fixed_text pad p n (w - 0)) ≡ fixed_text pad p n w
 begun out pad p n w e = ap (λ (k : ℕ). sets out 0 (fixed_text pad p n k)) (sub-zero w) ∙ sets_all (fixed_text pad p n w) out (e ∙ sym (text_length pad p n w))
