@@ -6,7 +6,6 @@ use Rattle.std.specs.Prelude.{◌≡◌, refl, Bool, false, cond, List, [], ◌�
 use Rattle.std.proofs.Math.Option.{Option, none, some}
 use Rattle.std.specs.Float.Ieee.{lt, of_bits, round}
 use Rattle.refusal.specs.Numbers as refusal
-use Rattle.refusal.specs.Order.{first, ◌if◌}
 use Rattle.refusal.specs.Refusals.{number_of, first_of, ◌when◌}
 use Rattle.refusal.specs.declared.Refusal.{Refusal}
 use Rattle.refusal.specs.declared.Refusal.TheVariants.{FarMoment}
@@ -108,12 +107,9 @@ far_ending Short = false
 far_ending Damped = false
 far_ending Converged = false
 
--- as a refusal, and as its number, or 0
+-- as a refusal
 abbrev pub far_of : Ending → Maybe Refusal
 far_of ended = first_of ((FarMoment when far_ending ended) ∷ [])
-
-abbrev pub far_refusal : Ending → ℕ
-far_refusal ended = first ((refusal.far_moment if far_ending ended) ∷ [])
 
 -- ---- the book
 

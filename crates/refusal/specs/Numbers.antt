@@ -1,4 +1,4 @@
--- The refusals of documents 01 and 02, by number; src/lib.rt has the same names for the code.
+-- The numbers of the refusals of documents 01 and 02; src/lib.rt names the refusals themselves.
 use Rattle.std.specs.Prelude.{ℕ}
 
 -- a pass file or a position line holds a byte above 127

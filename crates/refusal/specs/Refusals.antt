@@ -1,4 +1,4 @@
--- The refusals as the code names them, in the order in which a call checks them, and their numbers in the documents.
+-- The refusals that the code names, by number, as a list of checks in a call's order, and as an answer.
 use Rattle.std.specs.Prelude.{Bool, cond, List, [], ◌∷◌, ℕ, Option, Some, None, Result, Ok, Err}
 use Rattle.refusal.specs.Numbers as numbers
 use Rattle.refusal.specs.declared.Refusal.{Refusal}
