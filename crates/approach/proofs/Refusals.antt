@@ -1,6 +1,5 @@
 -- What the refusal lists say. Assumes nothing.
-use mathlib.Core.Path.{◌≡◌, refl, ap, ◌∙◌}
-use mathlib.Core.Bool.{Bool, true, false, not}
+use mathlib.Core.Path.{◌≡◌, ap, ◌∙◌}
 use mathlib.Core.List.{List, [], ◌∷◌}
 use Prim.Native.Nat.{ℕ, ◌≤◌, ◌<◌}
 use borrow.Author.Tests.{lt-ltb, le-ltb}
@@ -8,43 +7,20 @@ use lib.Dec.{ltb}
 use lib.IntN.{ℤ}
 use lib.ListN.{length}
 use lib.Ieee.{Float}
-use Rattle.std.proofs.Common.{Option, Some, None, Ok, Err}
-use Rattle.refusal.specs.Refusals.{Check, ◌when◌, first_of, answer}
+use Rattle.std.proofs.Common.{Some, None, Ok, Err}
+use Rattle.refusal.specs.Refusals.{Check, ◌when◌, first_of}
 use Rattle.refusal.specs.declared.Refusal.{Refusal}
-use Rattle.refusal.specs.declared.Refusal.TheVariants.{MomentRange, Sizes, ShortMemory}
+use Rattle.refusal.proofs.Lists.{before, after}
+use Rattle.refusal.specs.declared.Refusal.TheVariants.{ShortMemory}
 use Rattle.moment.specs.declared.Moment.{Moment}
 use Rattle.moment.specs.declared.Instant.{Instant}
 use Rattle.moment.specs.Range.{given_of}
-use Rattle.moment.specs.Sample.{times_in_range}
 use Rattle.moment.proofs.Ranges.{at_is, outside}
 use Rattle.moment.proofs.Samples.{both}
-use Rattle.pass_set.specs.PassSet.{sizes_agree}
 use Rattle.frame.specs.declared.Vec3.{Vec3}
 use Rattle.orbit.specs.declared.doppler.Station.{Station}
 use Rattle.orbit.specs.Doppler.{station_at}
-use Rattle.approach.specs.Answers.{set_refusal_of, sum_refusal, pca_refusal_of}
-
--- ---- a refusal and an answer say each other
-
-pub err : {A : Type 0} {o : Option Refusal} {x : Refusal} (a : A) → o ≡ Some x → Err x ≡ answer o a
-err a e = rw e
-
-pub ok : {A : Type 0} {o : Option Refusal} (a : A) → o ≡ None → Ok a ≡ answer o a
-ok a e = rw e
-
--- ---- an epoch before it, and an output after it
-
-refused_before : (a b : Bool) (rest : List Check) (x : Refusal) → first_of ((MomentRange when a) ∷ (Sizes when b) ∷ []) ≡ Some x
-    → first_of ((MomentRange when a) ∷ (Sizes when b) ∷ rest) ≡ Some x
-refused_before true b rest x e = e
-refused_before false true rest x e = e
-refused_before false false rest x e = absurd cc
-
-left_after : (a b : Bool) (rest : List Check) → first_of ((MomentRange when a) ∷ (Sizes when b) ∷ []) ≡ None
-    → first_of ((MomentRange when a) ∷ (Sizes when b) ∷ rest) ≡ first_of rest
-left_after true b rest e = absurd cc
-left_after false true rest e = absurd cc
-left_after false false rest e = refl
+use Rattle.approach.specs.Answers.{set_refusals, set_refusal_of, sum_refusal, pca_refusal_of}
 
 module _ (epoch : Moment) (counts : List ℕ) (times : List ℤ) (freqs centers : List Float) where
   pub epoch_out : (x : Refusal) → Err x ≡ given_of epoch.seconds epoch.nanos → sum_refusal epoch counts times freqs centers ≡ Some x
@@ -66,24 +42,18 @@ module _ (epoch : Moment) (counts : List ℕ) (times : List ℤ) (freqs centers 
     pub set_in : set_refusal_of counts times freqs centers ≡ None → sum_refusal epoch counts times freqs centers ≡ None
     set_in h = epoch_in ∙ h
 
-    -- the tests of the set, and of the room
-    abbrev late : Bool
-    late = not (times_in_range times)
-
-    abbrev odd : Bool
-    odd = not (sizes_agree counts (length times) (length freqs) (length centers))
-
+    -- the tests of the room
     abbrev room_last : (room : ℕ) → List Check
     room_last room = (ShortMemory when ltb room (length counts)) ∷ []
 
     pub pca_set_out : (room : ℕ) (x : Refusal) → set_refusal_of counts times freqs centers ≡ Some x → pca_refusal_of epoch counts times freqs centers room ≡ Some x
     unfolding set_refusal_of pca_refusal_of
-    pca_set_out room x h = simp (at_is epoch.seconds epoch.nanos i g).yes (refused_before late odd (room_last room) x h)
+    pca_set_out room x h = simp (at_is epoch.seconds epoch.nanos i g).yes (before (set_refusals counts times freqs centers []) (room_last room) x h)
 
     module _ (h : set_refusal_of counts times freqs centers ≡ None) where
       pca_in : (room : ℕ) → pca_refusal_of epoch counts times freqs centers room ≡ first_of (room_last room)
       unfolding set_refusal_of pca_refusal_of
-      pca_in room = simp (at_is epoch.seconds epoch.nanos i g).yes (left_after late odd (room_last room) h)
+      pca_in room = simp (at_is epoch.seconds epoch.nanos i g).yes (after (set_refusals counts times freqs centers []) (room_last room) h)
 
       pub pca_short : (room : ℕ) → room < length counts → pca_refusal_of epoch counts times freqs centers room ≡ Some ShortMemory
       pca_short room l = pca_in room ∙ rw (lt-ltb room (length counts) l)

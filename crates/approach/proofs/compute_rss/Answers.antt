@@ -1,7 +1,8 @@
 -- `compute_rss` meets its contract. Assumes nothing.
 use Rattle.std.proofs.Common.{rules, sym, ◌∙◌}
 use Rattle.moment.proofs.Ranges.{at_is}
-use Rattle.approach.proofs.Refusals.{err, epoch_out, set_out, set_in, station_is}
+use Rattle.refusal.proofs.Lists.{err}
+use Rattle.approach.proofs.Refusals.{epoch_out, set_out, set_in, station_is}
 use Rattle.approach.proofs.compute_rss.Goals as goal
 
 pub returns-in_err-t : goal.returns-in_err-t

@@ -1,7 +1,8 @@
 -- `get_pred_pca_times` meets its contract. Assumes nothing.
 use Rattle.std.proofs.Common.{rules, sym, ◌∙◌}
 use Rattle.moment.proofs.Ranges.{at_is}
-use Rattle.approach.proofs.Refusals.{err, ok, pca_epoch_out, pca_set_out, pca_short, pca_found, station_is}
+use Rattle.refusal.proofs.Lists.{err, ok}
+use Rattle.approach.proofs.Refusals.{pca_epoch_out, pca_set_out, pca_short, pca_found, station_is}
 use Rattle.approach.proofs.get_pred_pca_times.Goals as goal
 
 pub returns-in_err-t : goal.returns-in_err-t
