@@ -1,30 +1,30 @@
 -- Demand 3 follows from what fit and lines promise, for every input that both accept. Assumes nothing.
 use mathlib.Core.Path.{◌≡◌, refl, sym, ap, ◌∙◌}
-use mathlib.Core.Bool.{Bool, true, false, not, cond}
+use mathlib.Core.Bool.{true, false, not}
 use mathlib.Core.List.{List, [], ◌∷◌, ◌++◌, map}
 use mathlib.Core.Option.{Option, some}
-use Prim.Native.Nat.{ℕ, zero, suc, ◌+◌}
+use Prim.Native.Nat.{ℕ, ◌+◌}
 use native.Mathlib.Omega.{arith}
-use lib.Dec.{eqb}
-use lib.IntN.{ℤ, pos}
+use lib.IntN.{pos}
 use lib.ListN.{length, get_or, take, drop}
 use lib.Seq.{take_at, drop_at}
 use lib.Ieee.{Float, lt}
-use borrow.Author.Tests.{ne_eqb}
 use Rattle.float.specs.Ops.{at}
-use Rattle.refusal.specs.Numbers as refusal
-use Rattle.refusal.specs.Order.{first, ◌if◌}
+use Rattle.std.proofs.Common.{Option as Optional, Some, None, Ok}
+use Rattle.refusal.specs.Refusals.{Check, ◌when◌, first_of, written}
+use Rattle.refusal.specs.declared.Refusal.{Refusal}
+use Rattle.refusal.specs.declared.Refusal.TheVariants.{ShortMemory}
+use Rattle.refusal.proofs.Lists.{clear, before, accepted as none_and_value}
 use Rattle.moment.specs.declared.Instant.{Instant}
 use Rattle.moment.proofs.Samples.{moment_instant}
 use Rattle.residuals.specs.Residuals.{penalised_sum}
 use Rattle.orbit.specs.Doppler.{station_at}
 use Rattle.orbit.specs.declared.doppler.Station.{Station}
-use Rattle.book.specs.Book.{Book, far_ending}
 use Rattle.book.specs.Demand.{largest_sum, All, Tried}
 use Rattle.book.proofs.Demand.{tried}
 use Rattle.refine.specs.Advance.{advance_of}
-use Rattle.arguments.specs.Refusals as given
-use Rattle.arguments.specs.Refusals.{Room, enough, input_refusal_of}
+use Rattle.arguments.specs.Refusals.{enough, input_refusals, input_refusal_of, InputAccepted}
+use Rattle.arguments.specs.declared.Room.{Room}
 use Rattle.arguments.proofs.Laws as arguments
 use Rattle.fit.specs.Fit.{observed_passes, refined, trial_book}
 use Rattle.fit.specs.Answer.{
@@ -34,16 +34,13 @@ use Rattle.fit.specs.Answer.{
   first_book_of,
   book_of,
   biases,
-  any_large,
   work_refusals,
   fit_refusal,
   fit_found,
-  fit_answer,
   Outputs,
   output_room,
   over,
   filled_outputs,
-  written_outputs,
   Fits,
 }
 use Rattle.fit.specs.declared.Fit.{Fit}
@@ -51,51 +48,33 @@ use Rattle.fit.proofs.Laws.{length_biases}
 use Rattle.tle.specs.Lines.{catalog_of}
 use Rattle.tle.specs.Answer as tle
 use Rattle.tle.specs.Answer.{Formats}
-use Rattle.std.specs.Prelude.{None, Ok}
-use Rattle.refusal.specs.Refusals.{written}
 use Rattle.tle.proofs.Answers.{catalog_length}
-use Rattle.tle.proofs.Printed.{none_of, format_printed}
+use Rattle.tle.proofs.Printed.{format_printed}
 use Rattle.determination.specs.Demand.{sum_in, sum_again, any_below, returned_set, Accepted, Demand}
 use Rattle.determination.proofs.Sets.{sum_same, returned_agrees, over_at}
 
 -- ---- an accepted fit passed every test
 
-both_zero : (n a : ℕ) → cond (eqb n 0) a n ≡ 0 → (n ≡ 0) × (a ≡ 0)
-both_zero zero a h = (refl, h)
-both_zero (suc k) a h = absurd (let z = rw (ne_eqb (suc k) 0 (λ q. omega arith)) at h in omega arith)
-
--- of the memory and the work
-low_sum : (r p q l o : Bool)
-    → first (
-    (refusal.short_memory if r)
-    ∷ (refusal.far_moment if p)
-    ∷ (refusal.far_moment if q)
-    ∷ (refusal.large_sum if l)
-    ∷ (refusal.large_offset if o)
-    ∷ []
-    ) ≡ 0 → l ≡ false
-low_sum true p q l o h = absurd (omega (arith, h))
-low_sum false true q l o h = absurd (omega (arith, h))
-low_sum false false true l o h = absurd (omega (arith, h))
-low_sum false false false true o h = absurd (omega (arith, h))
-low_sum false false false false o h = refl
+-- checks of which none refuses, first ones among them
+none_before : (cs ds : List Check) → first_of (cs ++ ds) ≡ None → first_of cs ≡ None
+none_before cs ds e = go (first_of cs) refl
+  where
+    go : (o : Optional Refusal) → first_of cs ≡ o → first_of cs ≡ None
+    go None h = h
+    go (Some k) h = absurd (let z : None ≡ Some k = sym e ∙ before cs ds k h in cc)
 
 record Passed (x : Arguments) : Type 0 where
-  given : given.InputAccepted x.counts x.times x.freqs x.centers x.rec x.a x.i
+  given : InputAccepted x.counts x.times x.freqs x.centers x.rec x.a x.i
   low : lt largest_sum (book_of x).search.best ≡ false
 
-passed : (x : Arguments) (room : Room) → fit_refusal x room ≡ 0 → Passed x
-unfolding fit_refusal
+passed : (x : Arguments) (room : Room) → fit_refusal x room ≡ None → Passed x
+unfolding fit_refusal input_refusal_of
 passed x room e =
-    let p = pass_count x in
-    let b = book_of x in
-    let n = input_refusal_of x.counts x.times x.freqs x.centers x.rec x.a x.i in
-    let rest = (refusal.short_memory if not (enough (length x.times) p room)) ∷ work_refusals (first_book_of x) b p in
-    let h = both_zero n (first rest) (arguments.then x.counts x.times x.freqs x.centers x.rec x.a x.i n rest refl ∙ e) in
+    let rest = (ShortMemory when not (enough (length x.times) (pass_count x) room)) ∷ work_refusals (first_book_of x) (book_of x) (pass_count x) in
+    let inputs = input_refusals x.counts x.times x.freqs x.centers x.rec x.a x.i in
     record {
-      given = arguments.accepted x.counts x.times x.freqs x.centers x.rec x.a x.i h.0;
-      low = low_sum (not (enough (length x.times) p room)) (far_ending (first_book_of x).ended) (far_ending b.ended) (lt largest_sum b.search.best)
-          (any_large (biases 1 b.search.best_set p)) h.1;
+      given = arguments.accepted x.counts x.times x.freqs x.centers x.rec x.a x.i (none_before (inputs []) rest e);
+      low = (clear (inputs rest) e).1.1.1.1.1.1.1.1.1.1.0;
     }
 
 -- ---- its book
@@ -179,30 +158,20 @@ module _ (x : Arguments) (w : Outputs) (p : Passed x) (t : Tried (sum_in x) 150 
 
 -- ---- the theorem
 
-answer_number : (n : ℕ) (b : Book) (times : List ℤ) → (fit_answer n b times).refusal ≡ n
-unfolding fit_answer
-answer_number zero b times = refl
-answer_number (suc n) b times = refl
-
-module _ (x : Arguments) (w w' : Outputs) (scratch scratch' : List Float) (r : Fit) (f : Fits x w w' scratch scratch' r) (ok : r.refusal ≡ 0) where
-  none_refused : fit_refusal x (output_room w scratch) ≡ 0
-  none_refused = sym (answer_number (fit_refusal x (output_room w scratch)) (book_of x) x.times) ∙ ap (λ (s : Fit). s.refusal) (sym f.answered) ∙ ok
-
-  is_found : r ≡ fit_found (book_of x).search (book_of x).count x.times
-  unfolding fit_answer
-  is_found = f.answered ∙ ap (λ (k : ℕ). fit_answer k (book_of x) x.times) none_refused
+module _ (x : Arguments) (w w' : Outputs) (scratch scratch' : List Float) (r : Fit) (f : Fits x w w' scratch scratch' (Ok r)) where
+  is_found : (fit_refusal x (output_room w scratch) ≡ None) × (fit_found (book_of x).search (book_of x).count x.times ≡ r)
+  is_found = none_and_value _ _ _ f.answered
 
   is_filled : w' ≡ filled_outputs (book_of x).search.best_set (pass_count x) (book_of x).log w
-  unfolding written_outputs
-  is_filled = f.filled ∙ ap (λ (k : ℕ). written_outputs k (book_of x) (pass_count x) w) none_refused
+  is_filled = f.filled ∙ ap (λ (k : Optional Refusal). written k (filled_outputs (book_of x).search.best_set (pass_count x) (book_of x).log w) w) is_found.0
 
   -- whenever the fit accepts
   pub accepted : Accepted x w w' r
-  accepted = let p = passed x (output_room w scratch) none_refused in rw (is_found, is_filled) (found x w p (book_tried x p.low))
+  accepted = let p = passed x (output_room w scratch) is_found.0 in rw (← is_found.1, is_filled) (found x w p (book_tried x p.low))
 
   module _ (name text text' : List ℕ) (n : ℕ) (g : Formats name r.orbit text text' (Ok n)) where
     lines_accepted : tle.lines_refusal name r.orbit (length text) ≡ None
-    lines_accepted = none_of _ _ n g.answer
+    lines_accepted = (none_and_value _ _ _ g.answer).0
 
     text_is : text' ≡ catalog_of name r.orbit ++ drop (length name + 141) text
     text_is = g.text ∙ ap (λ k. written k (catalog_of name r.orbit ++ drop (length name + 141) text) text) lines_accepted

@@ -11,7 +11,8 @@ use native.Mathlib.Omega.{arith}
 use lib.ListN.{length, take, set, length-set}
 use lib.Seq.{get_or-set_same, get_or-set_other, get_or-take, length-take-le}
 use lib.Ieee.{Float, nan, lt}
-use Rattle.refusal.specs.Numbers as refusal
+use Rattle.refusal.specs.declared.Refusal.{Refusal}
+use Rattle.refusal.specs.declared.Refusal.TheVariants.{FarMoment}
 use Rattle.float.specs.Ops.{◌⊕◌, ◌⊖◌, at}
 use Rattle.loops.specs.Loop.{turns, for}
 use Rattle.linear.specs.Elimination.{solution_of}
@@ -83,7 +84,7 @@ for_alike R f g n s t body r = turns_alike R f g (n - 0) 0 n s t (omega arith) b
 pub data AlikeOutcome (p : ℕ) : Outcome → Outcome → Type 0 where
   both_next : {x y : List Float} {size : Float} → Alike p x y → AlikeOutcome p (next x size) (next y size)
   both_short : AlikeOutcome p short short
-  both_refused : {k : ℕ} → AlikeOutcome p (refused k) (refused k)
+  both_refused : {k : Refusal} → AlikeOutcome p (refused k) (refused k)
 
 module _ (p : ℕ) (x y : List Float) (s : Alike p x y) where
   subtracted_alike : (delta : List Float) → Alike p (subtracted (4 + 4 * p) delta x) (subtracted (4 + 4 * p) delta y)
@@ -149,7 +150,7 @@ module _ (g : Station) (d : Passes) (x y : List Float) (s : Alike (length d.coun
   unfolding residual_at
   residual_alike row = rw here
 
-  by_far : (t : Bool) (o q : Outcome) → AlikeOutcome (length d.counts) o q → AlikeOutcome (length d.counts) (cond t (refused refusal.far_moment) o) (cond t (refused refusal.far_moment) q)
+  by_far : (t : Bool) (o q : Outcome) → AlikeOutcome (length d.counts) o q → AlikeOutcome (length d.counts) (cond t (refused FarMoment) o) (cond t (refused FarMoment) q)
   by_far true o q h = both_refused
   by_far false o q h = h
 
