@@ -3,10 +3,10 @@
 
 ghost use Rattle.std.specs.Counts.{IsPrefixLen};
 
-use append::Text;
 use command::report::Biases;
 use frame::Vec3;
-use pass_files::say::write;
+use pass_files::say::{put, write};
+use refusal::Refusal;
 use report_text::{fitted, refused};
 use std::env::Env;
 use std::io::Stderr;
@@ -97,18 +97,14 @@ pub fn long_number(stderr: Stderr, k: usize) {
 }
 
 // A position line's refusal.
-pub fn no_place(stderr: Stderr, k: u32) {
-    let mut room = [0u8; 256];
-    let mut text = Text::new(&mut room);
-    refused::file_refusal(b"fit_passes: LAT,LON,HEIGHT", 0, k, &mut text);
-    write(stderr, text.written());
+pub fn no_place(stderr: Stderr, refusal: Refusal) {
+    put(stderr, |text| {
+        refused::file_refusal(b"fit_passes: LAT,LON,HEIGHT", None, refusal, text)
+    });
 }
 
-pub fn refusal(stderr: Stderr, k: u32) {
-    let mut room = [0u8; 256];
-    let mut text = Text::new(&mut room);
-    refused::refusal(k, &mut text);
-    write(stderr, text.written());
+pub fn refusal(stderr: Stderr, refusal: Refusal) {
+    put(stderr, |text| refused::refusal(refusal, text));
 }
 
 pub fn name_unprintable(stderr: Stderr) {
@@ -127,71 +123,63 @@ pub fn orbit_unprintable(stderr: Stderr) {
 
 // The whole fit.
 pub fn fit(stderr: Stderr, trials: usize, best: f64, rms: f64, samples: usize, passes: usize) {
-    let mut room = [0u8; 512];
-    let mut text = Text::new(&mut room);
-    fitted::fit(trials, best, rms, samples, passes, &mut text);
-    write(stderr, text.written());
+    put(stderr, |text| {
+        fitted::fit(trials, best, rms, samples, passes, text)
+    });
 }
 
 // The residual beside the samples' own noise, for so many non-empty passes.
 pub fn noise(stderr: Stderr, rms: f64, estimate: f64, passes: usize) {
-    let mut room = [0u8; 512];
-    let mut text = Text::new(&mut room);
-    fitted::noise(
-        estimate,
-        noise::ratio(rms, estimate),
-        noise::verdict(rms, estimate, passes),
-        &mut text,
-    );
-    write(stderr, text.written());
+    let ratio = noise::ratio(rms, estimate);
+    let finding = noise::verdict(rms, estimate, passes);
+    put(stderr, |text| {
+        fitted::noise(estimate, ratio, finding, text)
+    });
 }
 
-// The name of the file that word i gives, into the first places of out.
-fn file_name(rt: &impl Env, i: usize, out: &mut [u8]) -> usize
+// Word i into the first places of out, and its length: none of a word that is missing or finds no room.
+pub fn arg(rt: &impl Env, i: usize, out: &mut [u8]) -> usize
     ensures { IsPrefixLen result out.new }
 {
-    match rt.arg(i, out) {
-        Ok(n) => n,
-        Err(_) => 0,
-    }
+    rt.arg(i, out).unwrap_or(0)
+}
+
+// Does this with the name of the file of word i.
+fn with_name<F: FnOnce(&[u8])>(rt: &impl Env, i: usize, tell: F)
+    requires { F.IsAlwaysCallable tell }
+{
+    let mut path = [0u8; 4096];
+    let n = arg(rt, i, &mut path);
+    tell(&path[..n]);
 }
 
 fn pass_line(stderr: Stderr, name: &[u8], b: Biases) {
-    let mut room = [0u8; 4608];
-    let mut text = Text::new(&mut room);
-    fitted::pass(name, b.dt, b.df, b.df1, b.df2, &mut text);
-    write(stderr, text.written());
+    put(stderr, |text| {
+        fitted::pass(name, b.dt, b.df, b.df1, b.df2, text)
+    });
 }
 
 // The biases of the file of word i, if it has samples.
 pub fn pass(rt: &impl Env, stderr: Stderr, i: usize, b: Biases) {
-    if !b.sampled {
-        return;
+    if b.sampled {
+        with_name(rt, i, |name| pass_line(stderr, name, b));
     }
-    let mut path = [0u8; 4096];
-    let n = file_name(rt, i, &mut path);
-    pass_line(stderr, &path[..n], b);
 }
 
-fn refused_line(stderr: Stderr, name: &[u8], k: u32) {
-    let mut room = [0u8; 4608];
-    let mut text = Text::new(&mut room);
-    refused::file_refusal(name, 0, k, &mut text);
-    write(stderr, text.written());
+fn refused_line(stderr: Stderr, name: &[u8], refusal: Refusal) {
+    put(stderr, |text| {
+        refused::file_refusal(name, None, refusal, text)
+    });
 }
 
 // A refusal for what is in the file of word i.
-pub fn file_refusal(rt: &impl Env, stderr: Stderr, i: usize, k: u32) {
-    let mut path = [0u8; 4096];
-    let n = file_name(rt, i, &mut path);
-    refused_line(stderr, &path[..n], k);
+pub fn file_refusal(rt: &impl Env, stderr: Stderr, i: usize, refusal: Refusal) {
+    with_name(rt, i, |name| refused_line(stderr, name, refusal));
 }
 
 // The name of the file of word i.
 fn word_of_file(rt: &impl Env, stderr: Stderr, i: usize) {
-    let mut path = [0u8; 4096];
-    let n = file_name(rt, i, &mut path);
-    write(stderr, &path[..n]);
+    with_name(rt, i, |name| write(stderr, name));
 }
 
 // The file of word i has the samples of that of word j.

@@ -1,4 +1,4 @@
-// What is said of a file on standard error. `write` serves the command too.
+// What is said of a file on standard error. `write` and `put` serve the command too.
 use append::Text;
 use refusal::Refusal;
 use std::io::Stderr;
@@ -9,12 +9,19 @@ pub fn write(stderr: Stderr, text: &[u8]) {
     let _ = stderr.write_all(text);
 }
 
+// The text that `fill` puts, up to 4,608 bytes: a file's name has 4,096 at most, and no other text more than 512.
+pub fn put<F: FnOnce(&mut Text<'_>)>(stderr: Stderr, fill: F)
+    requires { F.IsAlwaysCallable fill }
+{
+    let mut room = [0u8; 4608];
+    let mut text = Text::new(&mut room);
+    fill(&mut text);
+    write(stderr, text.written());
+}
+
 // n in decimal digits.
 fn number(stderr: Stderr, n: usize) {
-    let mut room = [0u8; 20];
-    let mut text = Text::new(&mut room);
-    text.put_number(n as u64);
-    write(stderr, text.written());
+    put(stderr, |text| text.put_number(n as u64));
 }
 
 // A message about one file.
@@ -27,11 +34,10 @@ pub fn file(stderr: Stderr, path: &[u8], what: &[u8]) {
 
 // A refused file, and at which of its lines, where the refusal belongs to one.
 pub fn refused(stderr: Stderr, path: &[u8], file: &[u8], refusal: Refusal) {
-    let line = survey::survey(file).refused.unwrap_or(0);
-    let mut room = [0u8; 4608];
-    let mut text = Text::new(&mut room);
-    report_text::refused::file_refusal(path, line, refusal.number(), &mut text);
-    write(stderr, text.written());
+    let line = survey::survey(file).refused;
+    put(stderr, |text| {
+        report_text::refused::file_refusal(path, line, refusal, text)
+    });
 }
 
 fn all_or_some(stderr: Stderr, t: Tally) {
