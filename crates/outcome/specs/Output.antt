@@ -1,5 +1,5 @@
 -- What the command makes of a pass set: the passes by time, mirrored where they are as received, fitted, and the orbit's lines.
-use Rattle.std.specs.Prelude.{◌≡◌, refl, Bool, cond, List, [], ℕ, ◌≤◌, eqb, Float, length, take}
+use Rattle.std.specs.Prelude.{◌≡◌, refl, Bool, cond, List, [], ℕ, ◌≤◌, Float, length, take, Result, Ok, Err}
 use Rattle.std.specs.Float.Ieee.{of_bits, round}
 use Rattle.float.specs.Constant.{decimal}
 use Rattle.float.specs.Ops.{bits}
@@ -7,9 +7,10 @@ use Rattle.frame.specs.declared.Vec3.{Vec3}
 use Rattle.solution.specs.declared.SolvedOrbit.{SolvedOrbit}
 use Rattle.received.specs.Mirror.{mirrored_all}
 use Rattle.ordering.specs.Order.{PassSet, order_of, in_time}
-use Rattle.refusal.specs.Refusals.{written}
-use Rattle.arguments.specs.Refusals.{Room}
-use Rattle.fit.specs.Answer.{Arguments, arguments, fit_refusal, book_of, fit_answer, Outputs, output_room}
+use Rattle.refusal.specs.Refusals.{answer, written}
+use Rattle.refusal.specs.declared.Refusal.{Refusal}
+use Rattle.arguments.specs.declared.Room.{Room}
+use Rattle.fit.specs.Answer.{Arguments, arguments, fit_refusal, book_of, fit_found, Outputs, output_room}
 use Rattle.fit.specs.declared.Fit.{Fit}
 use Rattle.tle.specs.Lines.{catalog_of}
 use Rattle.tle.specs.Answer as lines
@@ -47,16 +48,20 @@ fitted_set received s = in_time (heard received s)
 -- ---- what is written
 
 -- the fit's answer
-unfoldable pub fit_of : Arguments → Room → Fit
-fit_of x room = fit_answer (fit_refusal x room) (book_of x) x.times
+unfoldable pub fit_of : Arguments → Room → Result Fit Refusal
+fit_of x room = answer (fit_refusal x room) (fit_found (book_of x).search (book_of x).count x.times)
 
 -- an orbit's lines, or nothing where they are refused; `size` bytes are lent for them
 unfoldable pub text_of : List ℕ → SolvedOrbit → ℕ → List ℕ
 text_of name o size = written (lines.lines_refusal name o size) (catalog_of name o) []
 
 -- standard output: the lines where fit and lines are accepted, nothing otherwise
+abbrev pub printed : List ℕ → Result Fit Refusal → ℕ → List ℕ
+printed name (Ok f) size = text_of name f.orbit size
+printed name (Err k) size = []
+
 unfoldable pub output_of : List ℕ → Arguments → Room → ℕ → List ℕ
-output_of name x room size = cond (eqb (fit_of x room).refusal 0) (text_of name (fit_of x room).orbit size) []
+output_of name x room size = printed name (fit_of x room) size
 
 -- the first n bytes
 pub record Writes (n : ℕ) (text written : List ℕ) : Type 0 where
@@ -65,9 +70,9 @@ pub record Writes (n : ℕ) (text written : List ℕ) : Type 0 where
 
 -- What `outcome` promises: the lent frequencies mirrored or as they were, the numbers that the passes had, the set that is fitted, the
 -- determination, and the bytes to write.
-pub record Comes (received : Bool) (s s' : PassSet) (freqs' : List Float) (order : List ℕ) (rec : Vec3) (i : Float) (w w' : Outputs) (scratch scratch' : List Float) (name text text' : List ℕ) (d : Determination) : Type 0 where
+pub record Comes (received : Bool) (s s' : PassSet) (freqs' : List Float) (order : List ℕ) (rec : Vec3) (i : Float) (w w' : Outputs) (scratch scratch' : List Float) (name text text' : List ℕ) (d : Result Determination Refusal) : Type 0 where
   pub mirrored : freqs' ≡ (heard received s).freqs
   pub ordered : order ≡ order_of s.counts s.times
   pub set : s' ≡ fitted_set received s
   pub determined : Determines (given (fitted_set received s) rec i) w w' scratch scratch' name text text' d
-  pub writes : Writes (bytes_written d.lines) text' (output_of name (given (fitted_set received s) rec i) (output_room w scratch) (length text))
+  pub writes : Writes (bytes_written d) text' (output_of name (given (fitted_set received s) rec i) (output_room w scratch) (length text))

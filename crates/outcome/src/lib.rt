@@ -10,6 +10,7 @@ ghost use Rattle.outcome.specs.Output.{Comes};
 
 use determination::Determination;
 use frame::Vec3;
+use refusal::Refusal;
 
 // The fit checks a first guess of the semi-major axis and never uses it, so the command does not ask for one.
 const INITIAL_A: f64 = 7000e3;
@@ -46,7 +47,7 @@ pub fn outcome(
     scratch: &mut [f64],
     name: &[u8],
     text: &mut [u8],
-) -> Determination
+) -> Result<Determination, Refusal>
     requires { Sizes counts.now (length times.now) (length freqs.old) (length centers.now)
         × Alike (length counts.now) (length order.old) (length counts_out.old) (length centers_out.old) (length counts.now)
         × Alike (length times.now) (length times.now) (length times.now) (length times_out.old) (length freqs_out.old) }
