@@ -12,7 +12,7 @@ use Rattle.passes.specs.File.{scanned, times_of, freqs_of, written, Reads}
 use Rattle.passes.specs.File as File
 use Rattle.passes.specs.declared.file.PassFile.{PassFile}
 use Rattle.passes.proofs.Files.{counted, never_both, same_ok}
-use Rattle.command.specs.Gather.{is_full, roomless, set_answer, gather_answer, SameArrays, Appended, Adds}
+use Rattle.command.specs.Gather.{is_full, roomless, set_answer, gather_answer, Appended, Adds}
 
 -- ---- what is known of an accepted file
 

@@ -1,6 +1,5 @@
 -- Bytes copied to the first places of an array, and the name kept. Assumes nothing.
-use Rattle.std.proofs.Common.{◌≡◌, ℕ, ◌≤◌, Bool, true, false, List, ◌++◌, length, take, drop, min, Some, None, refl, sym, ap, ◌∙◌, arith, length-append, length-drop, length-take-le}
-use Rattle.std.proofs.Common.{Option as Maybe}
+use Rattle.std.proofs.Common.{◌≡◌, ℕ, ◌≤◌, true, false, List, ◌++◌, length, take, drop, min, Some, None, refl, sym, ap, ◌∙◌, arith, length-append, length-drop, length-take-le}
 use Rattle.std.proofs.lemmas.List.{take_min}
 use native.Mathlib.Nat.{min-le_left, min-le_right}
 use lib.Seq.{take-append_seam}

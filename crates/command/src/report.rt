@@ -180,9 +180,9 @@ pub fn rms(
         at: 0,
         passes: 0,
     };
-    for p in 0..counts.len() {
+    for n in counts {
         let b = biases_at(dts, dfs, df1s, df2s, w.passes);
-        w = walk_pass(times, freqs, g, b, counts[p], w);
+        w = walk_pass(times, freqs, g, b, *n, w);
     }
     let n = w.at;
     roots::sqrt(w.sum / std::num::nearest_u64_to_f64(n as u64))

@@ -1,14 +1,11 @@
 -- `rms` meets its contract. Assumes nothing.
-use Rattle.std.proofs.Common.{◌-◌, ◌*◌, ◌≤◌, length}
+use Rattle.std.proofs.Common.{◌*◌, ◌≤◌, length}
 use Rattle.loops.specs.Loop.{for}
 use Rattle.loops.proofs.Laws.{Left}
 use Rattle.command.specs.Report.{with_pass, open_walk}
 use Rattle.command.proofs.report.rms.Given as goal
 
-abbrev pub invariant-loop-p : goal.invariant-loop-p
-invariant-loop-p l =
-    (l.p ≤ length l.counts) × (length l.counts ≤ 16) × (l.w.at ≤ l.p * 4294967295) × (l.w.passes ≤ l.p)
-    × Left l.p (length l.counts) (with_pass l.times l.freqs l.g l.counts l.dts l.dfs l.df1s l.df2s) l.w (for 0 (length l.counts) (with_pass l.times l.freqs l.g l.counts l.dts l.dfs l.df1s l.df2s) open_walk)
-
-abbrev pub decreases-loop-p : goal.decreases-loop-p
-decreases-loop-p l = length l.counts - l.p
+abbrev pub invariant-loop-n : goal.invariant-loop-n
+invariant-loop-n l =
+    (l.n-index ≤ length l.counts) × (length l.counts ≤ 16) × (l.w.at ≤ l.n-index * 4294967295) × (l.w.passes ≤ l.n-index)
+    × Left l.n-index (length l.counts) (with_pass l.times l.freqs l.g l.counts l.dts l.dfs l.df1s l.df2s) l.w (for 0 (length l.counts) (with_pass l.times l.freqs l.g l.counts l.dts l.dfs l.df1s l.df2s) open_walk)
