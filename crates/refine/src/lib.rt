@@ -7,7 +7,6 @@ ghost use Rattle.std.specs.Prelude.{◌≡◌, ◌+◌, ◌*◌, ◌<◌, ◌≤
 ghost use Rattle.loops.specs.Loop.{for, try};
 ghost use Rattle.residuals.specs.Residuals.{rows_of, residuals};
 ghost use Rattle.residuals.specs.Answers.{passes_in, Filled};
-ghost use Rattle.normal.specs.Normal.{Grid};
 ghost use Rattle.refine.specs.Jacobian.{bias_eps, eps_of, perturbed_of, put_entry, column_of};
 ghost use Rattle.refine.specs.Advance.{advance_of, cells_of, Ready, Advances};
 
@@ -47,20 +46,17 @@ fn perturbed(x: [f64; PARAMS], k: usize, eps: f64) -> [f64; PARAMS]
     y
 }
 
-fn put_entry(r: &[f64], column: &[f64], n: usize, eps: f64, k: usize, row: usize, table: &mut [f64])
-    requires { Grid (length r.now) n table.old × (length column.now ≡ length r.now) × (k < n) × (row < length r.now) }
-    ensures { table.new ≡ put_entry n eps k r.now column.now row table.old }
+// Column k of the table from the residuals of the moved set.
+fn put_column(table: &mut Table, column: &[f64], eps: f64, k: usize)
+    requires { (length column.now ≡ length table.old.residuals.now) × (k < table.old.n) }
+    ensures size { table.new.n ≡ table.old.n }
+    ensures residuals { table.new.residuals.now ≡ table.old.residuals.now }
+    ensures after { table.new.entries.now ≡ for 0 (length table.old.residuals.now)
+        (put_entry table.old.n eps k table.old.residuals.now column.now) table.old.entries.now }
 {
-    let q = normal::place(r.len(), n, row, k);
-    table[q] = (column[row] - r[row]) / eps;
-}
-
-fn put_column(r: &[f64], column: &[f64], n: usize, eps: f64, k: usize, table: &mut [f64])
-    requires { Grid (length r.now) n table.old × (length column.now ≡ length r.now) × (k < n) }
-    ensures { table.new ≡ for 0 (length r.now) (put_entry n eps k r.now column.now) table.old }
-{
+    let r = table.residuals;
     for row in 0..r.len() {
-        put_entry(r, column, n, eps, k, row, table);
+        table.put(row, k, (column[row] - r[row]) / eps);
     }
 }
 
@@ -68,15 +64,16 @@ fn put_column(r: &[f64], column: &[f64], n: usize, eps: f64, k: usize, table: &m
 fn jacobian_column<const SECOND: bool>(
     p: &Point<SECOND>,
     obs: &Observations,
-    r: &[f64],
-    n: usize,
     k: usize,
-    table: &mut [f64],
+    table: &mut Table,
 ) -> Result<(), Refusal>
-    requires { Grid (length r.now) n table.old
-        × (length r.now ≡ rows_of SECOND (length obs.now.times.now) (length obs.now.counts.now)) × (k < n) }
-    ensures { Filled result table.new (column_of (eps_of SECOND) (residuals SECOND obs.now.station (passes_in obs.now))
-        p.now.params r.now (length r.now) n k table.old) }
+    requires { (length table.old.residuals.now ≡ rows_of SECOND (length obs.now.times.now) (length obs.now.counts.now))
+        × (k < table.old.n) }
+    ensures size { table.new.n ≡ table.old.n }
+    ensures residuals { table.new.residuals.now ≡ table.old.residuals.now }
+    ensures filled { Filled result table.new.entries.now (column_of (eps_of SECOND) (residuals SECOND obs.now.station
+        (passes_in obs.now)) p.now.params table.old.residuals.now (length table.old.residuals.now) table.old.n k
+        table.old.entries.now) }
 {
     let eps = param_eps::<SECOND>(k);
     let moved = Point {
@@ -84,8 +81,8 @@ fn jacobian_column<const SECOND: bool>(
     };
     let mut column = [0.0; ROWS];
     residuals::residuals_into::<SECOND>(&moved, obs, &mut column)?;
-    let m = r.len();
-    put_column(r, &column[..m], n, eps, k, table);
+    let m = table.residuals.len();
+    put_column(table, &column[..m], eps, k);
     Ok(())
 }
 
@@ -93,17 +90,17 @@ fn jacobian_column<const SECOND: bool>(
 fn jacobian<const SECOND: bool>(
     p: &Point<SECOND>,
     obs: &Observations,
-    r: &[f64],
-    n: usize,
-    table: &mut [f64],
+    table: &mut Table,
 ) -> Result<(), Refusal>
-    requires { Grid (length r.now) n table.old
-        × (length r.now ≡ rows_of SECOND (length obs.now.times.now) (length obs.now.counts.now)) }
-    ensures { Filled result table.new (try 0 n (column_of (eps_of SECOND) (residuals SECOND obs.now.station (passes_in obs.now))
-        p.now.params r.now (length r.now) n) table.old) }
+    requires { length table.old.residuals.now ≡ rows_of SECOND (length obs.now.times.now) (length obs.now.counts.now) }
+    ensures size { table.new.n ≡ table.old.n }
+    ensures residuals { table.new.residuals.now ≡ table.old.residuals.now }
+    ensures filled { Filled result table.new.entries.now (try 0 table.old.n (column_of (eps_of SECOND) (residuals SECOND
+        obs.now.station (passes_in obs.now)) p.now.params table.old.residuals.now (length table.old.residuals.now)
+        table.old.n) table.old.entries.now) }
 {
-    for k in 0..n {
-        jacobian_column(p, obs, r, n, k, table)?;
+    for k in 0..table.n {
+        jacobian_column(p, obs, k, table)?;
     }
     Ok(())
 }
@@ -124,17 +121,16 @@ pub fn advance<const SECOND: bool>(
     let params = p.params;
     let n = residuals::place_of::<SECOND>(obs.counts.len());
     let cells = r.len() * n;
-    let entries = &mut scratch[..cells];
-    if let Err(far) = jacobian(p, obs, r, n, entries) {
+    let mut table = Table {
+        residuals: r,
+        n,
+        entries: &mut scratch[..cells],
+    };
+    if let Err(far) = jacobian(p, obs, &mut table) {
         return Stepped {
             step: Step::Refused(far),
             params,
         };
     }
-    let table = Table {
-        residuals: r,
-        n,
-        entries,
-    };
     normal::damped_step::<SECOND>(&table, lambda, params)
 }

@@ -1,5 +1,5 @@
 -- `advance` meets its contract. Assumes nothing.
-use mathlib.Core.Path.{refl, sym, ◌∙◌}
+use mathlib.Core.Path.{refl, sym}
 use native.Mathlib.Omega.{arith}
 use borrow.Author.Rules.{rules}
 use lib.Seq.{length-take-le}
@@ -12,29 +12,26 @@ place_of-n-requires g c = c.args.obs.now.held.few
 pub overflow_mul-cells : goal.overflow_mul-cells
 overflow_mul-cells g c = omega (arith, cells_few _ _ _ _ _ _ _ _ c.args.obs.now.held c.requires c.place_of-n.ensures.0)
 
-pub slice_bounds-entries-end : goal.slice_bounds-entries-end
-slice_bounds-entries-end g c = cells_fit _ _ _ _ _ _ _ _ c.args.obs.now.held c.requires c.place_of-n.ensures.0
+pub slice_bounds-table-end : goal.slice_bounds-table-end
+slice_bounds-table-end g c = cells_fit _ _ _ _ _ _ _ _ c.args.obs.now.held c.requires c.place_of-n.ensures.0
 
-pub slice_bounds-entries-end-2 : goal.slice_bounds-entries-end-2
-slice_bounds-entries-end-2 g c =
+pub slice_bounds-table-end-2 : goal.slice_bounds-table-end-2
+slice_bounds-table-end-2 g c =
     sym (length-take-le _ _ (cells_fit _ _ _ _ _ _ _ _ c.args.obs.now.held c.requires c.place_of-n.ensures.0))
 
 pub jacobian-requires : goal.jacobian-requires
-jacobian-requires g c =
-    let pre = c.requires in
-    let held = c.args.obs.now.held in
-    let en = c.place_of-n.ensures.0 in (
-      search rules,
-      (record { few = rows_few _ _ _ _ _ _ _ _ held pre en; narrow = columns_few _ _ _ _ _ _ _ _ held pre en; full = length-take-le _ _ (cells_fit _ _ _ _ _ _ _ _ held pre en) }, pre.rows),
-    )
+jacobian-requires g c = (search rules, c.requires.rows)
 
 pub returns-in-Err : goal.returns-in-Err
 returns-in-Err g c =
     let pre = c.requires in
+    let held = c.args.obs.now.held in
     let en = c.place_of-n.ensures.0 in
+    let e = c.in-Err.ensures in
+    let long = length-take-le _ _ (cells_fit _ _ _ _ _ _ _ _ held pre en) in
     record {
-      outcome = advance_far _ _ _ _ _ _ _ _ c.args.obs.now.held pre en _ _ _ (length-take-le _ _ (cells_fit _ _ _ _ _ _ _ _ c.args.obs.now.held pre en)) _ c.in-Err.ensures;
-      behind = behind _ _ _ _ _ _ _ _ c.args.obs.now.held pre en c.jacobian.new.table c.args.scratch.now _ (c.jacobian.auto.table ∙ length-take-le _ _ (cells_fit _ _ _ _ _ _ _ _ c.args.obs.now.held pre en)) refl;
+      outcome = advance_far _ _ _ _ _ _ _ _ held pre en _ _ _ long _ e.filled;
+      behind = behind _ _ _ _ _ _ _ _ held pre en _ c.args.scratch.now _ (search (rules, long)) refl;
     }
 
 pub invariant_of-table : goal.invariant_of-table
@@ -43,7 +40,7 @@ invariant_of-table g c =
     let held = c.args.obs.now.held in
     let en = c.place_of-n.ensures.0 in
     record {
-      grid = record { few = rows_few _ _ _ _ _ _ _ _ held pre en; narrow = columns_few _ _ _ _ _ _ _ _ held pre en; full = c.jacobian.auto.table ∙ length-take-le _ _ (cells_fit _ _ _ _ _ _ _ _ held pre en) };
+      grid = record { few = rows_few _ _ _ _ _ _ _ _ held pre en; narrow = columns_few _ _ _ _ _ _ _ _ held pre en; full = length-take-le _ _ (cells_fit _ _ _ _ _ _ _ _ held pre en) };
       parameters = columns_four _ _ _ _ _ _ _ _ held pre en;
     }
 
@@ -52,8 +49,9 @@ returns g c =
     let pre = c.requires in
     let held = c.args.obs.now.held in
     let en = c.place_of-n.ensures.0 in
+    let e = c.in_default.ensures in
     let long = length-take-le _ _ (cells_fit _ _ _ _ _ _ _ _ held pre en) in
     record {
-      outcome = advance_done _ _ _ _ _ _ _ _ held pre en _ _ _ long _ _ c.in_default.ensures c.damped_step.ensures;
+      outcome = advance_done _ _ _ _ _ _ _ _ held pre en _ _ _ long _ _ e.filled (rw (e.size, e.residuals) at c.damped_step.ensures);
       behind = behind _ _ _ _ _ _ _ _ held pre en _ c.args.scratch.now _ (search (rules, long)) refl;
     }

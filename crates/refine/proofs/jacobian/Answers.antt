@@ -1,6 +1,6 @@
 -- `jacobian` meets its contract. Assumes nothing.
+use mathlib.Core.Path.{◌∙◌}
 use Rattle.std.proofs.lemmas.Result.{err_from_is_err_and}
-use borrow.Author.Rules.{rules}
 use Rattle.refine.proofs.Columns.{again_fill, refused_fill, columns}
 use Rattle.refine.proofs.jacobian.Goals as goal
 
@@ -10,23 +10,17 @@ loop-k-init g c = search columns
 pub jacobian_column-requires : goal.jacobian_column-requires
 jacobian_column-requires g c = search columns
 
-pub returns-in_err-jacobian_column : goal.returns-in_err-jacobian_column
-returns-in_err-jacobian_column g c =
+pub returns-in_err-jacobian_column-clause-filled : goal.returns-in_err-jacobian_column-clause-filled
+returns-in_err-jacobian_column-clause-filled g c =
+    let i = c.loop-k.invariant in
     let p = err_from_is_err_and c.from_residual.result c.from_residual.ensures.1 in
-    rw (p.1, p.2) (refused_fill c.loop-k-test.true c.loop-k.invariant.2 c.in_err-jacobian_column.ensures)
-
-pub overflow_step-k : goal.overflow_step-k
-overflow_step-k g c = search columns
-
-pub loop-k-smaller : goal.loop-k-smaller
-loop-k-smaller g c = search columns
+    rw (p.1, p.2) (refused_fill c.loop-k-test.true i.2 (rw (i.0, i.1) at c.in_err-jacobian_column.ensures.filled))
 
 pub loop-k-preserved : goal.loop-k-preserved
 loop-k-preserved g c =
-    (search rules, search rules, again_fill c.loop-k-test.true c.loop-k.invariant.2 c.in_ok-jacobian_column.ensures)
+    let i = c.loop-k.invariant in
+    let e = c.in_ok-jacobian_column.ensures in
+    (e.size ∙ i.0, e.residuals ∙ i.1, again_fill c.loop-k-test.true i.2 (rw (i.0, i.1) at e.filled))
 
-pub shape_of-table : goal.shape_of-table
-shape_of-table g c = search columns
-
-pub returns : goal.returns
-returns g c = search columns
+pub returns-clause-filled : goal.returns-clause-filled
+returns-clause-filled g c = search columns
