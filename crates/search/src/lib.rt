@@ -254,27 +254,24 @@ fn chosen(
     let reg_rss_current = regularized(history, k + 1, rss);
     let reg_rss_scrambled = regularized(temp_history, k + 1, other_rss);
     let best = kept(w.best, w.raan0, w.u0, rss);
-    let rng = next.rng;
+    let onward = Trajectory {
+        raan0: next.raan0,
+        u0: next.u0,
+        best,
+        lr: w.lr * 0.95,
+        noise_std: w.noise_std * 0.9,
+        rng: next.rng,
+        history,
+    };
     if reg_rss_scrambled < reg_rss_current {
         Trajectory {
             raan0: other.raan0,
             u0: other.u0,
-            best,
-            lr: w.lr * 0.95,
-            noise_std: w.noise_std * 0.9,
-            rng,
             history: temp_history,
+            ..onward
         }
     } else {
-        Trajectory {
-            raan0: next.raan0,
-            u0: next.u0,
-            best,
-            lr: w.lr * 0.95,
-            noise_std: w.noise_std * 0.9,
-            rng,
-            history,
-        }
+        onward
     }
 }
 
