@@ -16,13 +16,12 @@ use Rattle.refusal.specs.Refusals.{◌when◌}
 use Rattle.refusal.specs.declared.Refusal.{Refusal}
 use Rattle.refusal.specs.declared.Refusal.TheVariants.{MomentRange, Sizes as SizesDisagree, ShortMemory}
 use Rattle.refusal.proofs.Lists.{clear}
-use Rattle.moment.specs.Range.{Within}
 use Rattle.moment.specs.Sample.{times_in_range, Timed, instant_at}
-use Rattle.moment.proofs.Samples.{timed, within_sound}
+use Rattle.moment.proofs.Samples.{timed}
 use Rattle.pass_set.specs.PassSet.{Sizes, sizes_agree}
 use Rattle.pass_set.proofs.Laws as laws
 use Rattle.orbit.specs.declared.doppler.Station.{Station}
-use Rattle.residuals.specs.Samples.{Passes, counts_at, passes_of, first_epoch, DatedTimes, Samples}
+use Rattle.residuals.specs.Samples.{Passes, counts_at, first_epoch, DatedTimes}
 use Rattle.residuals.specs.Residuals.{place_of, rows_of, penalised_sum, each, sum_of}
 use Rattle.residuals.specs.Answers as residuals
 use Rattle.residuals.specs.Residuals as residuals-of
@@ -37,7 +36,7 @@ use Rattle.trials.specs.Trials.{Tries, state_search, state_after, rows_in, below
 use Rattle.trials.specs.declared.State.{State}
 use Rattle.trials.specs.declared.Tried.{Tried}
 use Rattle.trials.proofs.Laws.{kept_set}
-use Rattle.probes.specs.Call.{probe_refusal, Prepared, book_with, book_after, enough_of, trial_of}
+use Rattle.probes.specs.Call.{probe_refusal, Observable, book_with, book_after, enough_of, trial_of}
 
 -- ---- no refusal before the work
 
@@ -70,19 +69,9 @@ no_epoch (t ∷ ts) h = absurd (omega (arith, h))
 
 -- ---- samples that are prepared
 
-pub held : {counts : List ℕ} {times : List ℤ} {freqs : List Float} {room least : ℕ} (g : Station) (moments : List ℕ) (turns : List Float)
-    → Taken counts times freqs (length counts) room least → Within 0 g.epoch.secs g.epoch.nanos → Prepared times moments turns
-    → Samples g (passes_of counts (take (length times) moments) freqs) turns
-held {times = times} g moments turns t w p =
-    let same : length (take (length times) moments) ≡ length times = ap length p.counts ∙ counts_length times in
-    record {
-      epoch = within_sound 0 g.epoch.secs g.epoch.nanos (omega arith) w;
-      few = t.sizes.few;
-      small = rw same t.sizes.small;
-      whole = t.sizes.whole ∙ sym same;
-      pairs = t.sizes.pairs ∙ sym same;
-      turned = p.rotations;
-    }
+pub observable : {counts : List ℕ} {times : List ℤ} {freqs : List Float} {room least : ℕ} (moments turns : ℕ) → 4096 ≤ moments → 8192 ≤ turns
+    → Taken counts times freqs (length counts) room least → Observable counts times (length freqs) moments turns
+observable moments turns m n t = record { timed = t.timed; sizes = t.sizes; places = m; pairs = n }
 
 pub dated : (times : List ℤ) (moments : List ℕ) → Timed times → take (length times) moments ≡ counts_at times → DatedTimes (take (length times) moments)
 dated times moments t e = rw e (counts_dated times t)

@@ -1,18 +1,18 @@
 -- What the search over all starts, the residuals and a single trial give as calls of their own, and what they leave in lent memory.
 -- They serve the comparison with the original, and take any input: a set without samples is one whose sums have no terms.
-use Rattle.std.specs.Prelude.{◌≡◌, Bool, not, List, [], ◌∷◌, ◌++◌, ℕ, leb, ltb, ℤ, length, get_or, take, drop, replicate, Float, Option as Maybe, Result, Ok, Err}
+use Rattle.std.specs.Prelude.{◌≡◌, Bool, not, List, [], ◌∷◌, ◌++◌, ℕ, ◌≤◌, leb, ltb, ℤ, length, get_or, drop, replicate, Float, Option as Maybe, Result, Ok, Err}
 use Rattle.std.proofs.Math.Option.{Option, none, some}
 use Rattle.refusal.specs.Refusals.{◌when◌, first_of, answer, unless, written}
 use Rattle.refusal.specs.declared.Refusal.{Refusal}
 use Rattle.refusal.specs.declared.Refusal.TheVariants.{MomentRange, Sizes, ShortMemory}
 use Rattle.float.specs.Ops.{bits}
-use Rattle.moment.specs.Sample.{times_in_range}
-use Rattle.pass_set.specs.PassSet.{sizes_agree}
+use Rattle.moment.specs.Sample.{times_in_range, Timed}
+use Rattle.pass_set.specs.PassSet.{sizes_agree, Sizes as SizesOf}
 use Rattle.frame.specs.declared.Vec3.{Vec3}
 use Rattle.orbit.specs.declared.doppler.Station.{Station}
 use Rattle.search.specs.declared.Fixed.{Fixed}
 use Rattle.search.specs.declared.Found.{Found}
-use Rattle.residuals.specs.Samples.{Passes, counts_at, passes_of, station_of, Rotations}
+use Rattle.residuals.specs.Samples.{Passes, counts_at, passes_of, station_of}
 use Rattle.residuals.specs.Residuals.{each, place_of, rows_of, penalised_sum, sum_of}
 use Rattle.residuals.specs.Answers.{sum_answer}
 use Rattle.refine.specs.Advance.{advance_of}
@@ -99,8 +99,10 @@ pub record TrialCall (k : Maybe Refusal) (a : After) (scratch scratch' : List Fl
   pub answer : after_of r ≡ trial_answer k a
   pub zeros : scratch' ≡ cleared k scratch
 
--- ---- what prepares the samples
+-- ---- what the observations of a call ask: samples that are not refused, and room for the counts and rotations of 4,096
 
-pub record Prepared (times : List ℤ) (moments : List ℕ) (turns : List Float) : Type 0 where
-  pub counts : take (length times) moments ≡ counts_at times
-  pub rotations : Rotations (take (length times) moments) turns
+pub record Observable (counts : List ℕ) (times : List ℤ) (freqs moments turns : ℕ) : Type 0 where
+  pub timed : Timed times
+  pub sizes : SizesOf counts (length times) freqs (length counts)
+  pub places : 4096 ≤ moments
+  pub pairs : 8192 ≤ turns

@@ -15,7 +15,7 @@ ghost use Rattle.residuals.specs.Samples.{first_epoch, station_of};
 ghost use Rattle.residuals.specs.Residuals.{residuals};
 ghost use Rattle.residuals.specs.Answers.{passes_in};
 ghost use Rattle.trials.specs.Trials.{state_search, state_after};
-ghost use Rattle.probes.specs.Call.{probe_refusal, fixed_of, Searches, samples_of, Sums, trial_of, TrialCall, Prepared};
+ghost use Rattle.probes.specs.Call.{probe_refusal, fixed_of, Searches, samples_of, Sums, trial_of, TrialCall, Observable};
 
 use book::Ending;
 use frame::Vec3;
@@ -152,13 +152,28 @@ pub fn search_starts(
 
 // ---- residuals
 
-// The samples' moments as counts, in the first places, and the rotations then.
-fn prepare(times: &[i64], moments: &mut [u64], turns: &mut [f64])
-    requires { Timed times.now × (length times.now ≤ 4096) × (length times.now ≤ length moments.old) × (2 * length times.now ≤ length turns.old) }
-    ensures { Prepared times.now moments.new turns.new }
+// What the predictions share. The samples' moments as counts and the rotations then are worked out in the rooms that are lent.
+fn observations<'a>(
+    station: Station,
+    counts: &'a [u32],
+    times: &[i64],
+    freqs: &'a [f64],
+    moments: &'a mut [u64],
+    turns: &'a mut [f64],
+) -> Observations<'a>
+    requires { Observable counts.now times.now (length freqs.now) (length moments.old) (length turns.old) × Within 0 station.epoch.secs station.epoch.nanos }
+    ensures { (result.station ≡ station) × (passes_in result ≡ samples_of counts.now times.now freqs.now) }
 {
     residuals::counts_at(times, moments);
-    residuals::rotations(&moments[..times.len()], turns);
+    let counted = &moments[..times.len()];
+    residuals::rotations(counted, turns);
+    Observations {
+        station,
+        counts,
+        times: counted,
+        freqs,
+        turns,
+    }
 }
 
 // The penalised sum of a set of parameters; its residuals go to the first places of out, which has 4,144 or more. They are kept apart
@@ -177,14 +192,15 @@ pub fn residuals_of<const SECOND: bool>(
     accept(x.counts, x.times, x.freqs, passes, out.len(), ROWS)?;
     let mut moments = [0u64; MAX_SAMPLES];
     let mut turns = [0.0; TURNS];
-    prepare(x.times, &mut moments, &mut turns);
-    let obs = Observations {
-        station: station(x.times, x.center_freq, x.rec_ecef),
-        counts: x.counts,
-        times: &moments[..x.times.len()],
-        freqs: x.freqs,
-        turns: &turns,
-    };
+    let station = station(x.times, x.center_freq, x.rec_ecef);
+    let obs = observations(
+        station,
+        x.counts,
+        x.times,
+        x.freqs,
+        &mut moments,
+        &mut turns,
+    );
     let mut r = [0.0; ROWS];
     let sum = residuals::penalised_sum(&Point::<SECOND> { params }, &obs, &mut r)?;
     trials::put(&r[..obs.rows::<SECOND>()], out);
@@ -220,14 +236,15 @@ pub fn trial<const SECOND: bool>(x: &Given, s: State, scratch: &mut [f64]) -> Re
     accept(x.counts, x.times, x.freqs, passes, scratch.len(), TABLE)?;
     let mut moments = [0u64; MAX_SAMPLES];
     let mut turns = [0.0; TURNS];
-    prepare(x.times, &mut moments, &mut turns);
-    let obs = Observations {
-        station: station(x.times, x.center_freq, x.rec_ecef),
-        counts: x.counts,
-        times: &moments[..x.times.len()],
-        freqs: x.freqs,
-        turns: &turns,
-    };
+    let station = station(x.times, x.center_freq, x.rec_ecef);
+    let obs = observations(
+        station,
+        x.counts,
+        x.times,
+        x.freqs,
+        &mut moments,
+        &mut turns,
+    );
     let after = turned::<SECOND>(&obs, s, scratch);
     linear::clear(scratch);
     match trials::far_refusal(after.ended) {
