@@ -8,29 +8,16 @@ use refusal::Refusal;
 // What every place of a lent output holds before the call.
 const UNTOUCHED: f64 = 7.0;
 
-// Whether all from place n on have the bits of v.
-fn all_are(x: &[f64], n: usize, v: f64) -> bool {
-    let mut i = n;
-    while i < x.len() {
-        if answer_lines::hex::bits(x[i]) != answer_lines::hex::bits(v) {
-            return false;
-        }
-        i += 1;
-    }
-    true
-}
-
-fn untouched(x: &[f64], n: usize) -> bool {
-    all_are(x, n, UNTOUCHED)
+// Whether all have the bits of v.
+fn all_are(x: &[f64], v: f64) -> bool {
+    let bits = answer_lines::hex::bits(v);
+    x.iter().all(|y| answer_lines::hex::bits(*y) == bits)
 }
 
 // Whether the list at the first field is the first numbers of x, and the rest is untouched.
 fn same_list(fields: &[u8], x: &[f64]) -> bool {
-    let n = answer_lines::first(x, answer_lines::field(fields, 0)).len();
-    if !answer_lines::same(fields, n, x) {
-        return false;
-    }
-    untouched(x, n)
+    let n = answer_lines::field(fields, 0).min(x.len() as u64) as usize;
+    answer_lines::same(fields, n, x) && all_are(&x[n..], UNTOUCHED)
 }
 
 fn same_epoch(fields: &[u8], t: Moment) -> bool {
@@ -41,49 +28,38 @@ fn same_epoch(fields: &[u8], t: Moment) -> bool {
 // Whether the fields are: a, i, raan0, u0, epoch, best sum, and as many sums as trials.
 fn same_fit(fields: &[u8], f: Fit) -> bool {
     let o = f.orbit;
-    if !answer_lines::elements_are(fields, &[o.a, o.i, o.raan0, o.u0]) {
-        return false;
-    }
-    if !same_epoch(answer_lines::from(fields, 4), o.epoch) {
-        return false;
-    }
-    if !answer_lines::float_is(fields, 6, f.best) {
-        return false;
-    }
-    answer_lines::field(fields, 7) == f.trials as u64
+    answer_lines::elements_are(fields, &[o.a, o.i, o.raan0, o.u0])
+        && same_epoch(answer_lines::from(fields, 4), o.epoch)
+        && answer_lines::float_is(fields, 6, f.best)
+        && answer_lines::field(fields, 7) == f.trials as u64
 }
 
-// Whether the fields after the fit's are: log, four lists of biases, lines.
+// Whether the fields after the fit's are: the lists that were lent, lines.
 fn same_outputs(
     fields: &[u8],
-    dts: &[f64],
-    dfs: &[f64],
-    df1s: &[f64],
-    df2s: &[f64],
-    log: &[f64],
+    lent: &[&[f64]; 5],
     lines: Result<usize, Refusal>,
     text: &[u8],
 ) -> bool {
-    if !same_list(fields, log) {
-        return false;
+    let mut rest = fields;
+    for x in lent {
+        if !same_list(rest, x) {
+            return false;
+        }
+        rest = answer_lines::after_list(rest);
     }
-    let a = answer_lines::after_list(fields);
-    if !same_list(a, dts) {
-        return false;
+    replay_lines::agreement::same_lines(rest, lines, text)
+}
+
+// Whether a refused fit left the lists as they were, and, up to 21, its scratch too; after any other answer that is zeros.
+fn left_right(found: Result<Determination, Refusal>, lent: &[&[f64]; 5], scratch: &[f64]) -> bool {
+    match found {
+        Ok(_) => all_are(scratch, 0.0),
+        Err(r) => {
+            let left = if r.number() <= 21 { UNTOUCHED } else { 0.0 };
+            all_are(scratch, left) && lent.iter().all(|x| all_are(x, UNTOUCHED))
+        }
     }
-    let b = answer_lines::after_list(a);
-    if !same_list(b, dfs) {
-        return false;
-    }
-    let c = answer_lines::after_list(b);
-    if !same_list(c, df1s) {
-        return false;
-    }
-    let d = answer_lines::after_list(c);
-    if !same_list(d, df2s) {
-        return false;
-    }
-    replay_lines::agreement::same_lines(answer_lines::after_list(d), lines, text)
 }
 
 // A fit of the stored bytes; the fields after them are: centres, receiver, initial a and i, name.
@@ -103,7 +79,7 @@ fn fits(bytes: &[u8], fields: &[u8], answer: &[u8]) -> bool {
     let mut log = [UNTOUCHED; 160];
     let mut scratch = rooms::fit_scratch(UNTOUCHED);
     let mut text = [0u8; 256];
-    let d = determination::fit_and_format_stored(
+    let found = determination::fit_and_format_stored(
         bytes,
         given,
         answer_lines::vec3(rest),
@@ -118,41 +94,13 @@ fn fits(bytes: &[u8], fields: &[u8], answer: &[u8]) -> bool {
         name,
         &mut text,
     );
-    let f = d.fit;
-    if !answer_lines::refused(answer, f.refusal) {
-        return false;
-    }
-    let worked = f.refusal == 0 || 21 < f.refusal;
-    if worked && !all_are(&scratch, 0, 0.0) {
-        return false;
-    }
-    if !worked && !untouched(&scratch, 0) {
-        return false;
-    }
-    if f.refusal != 0 {
-        return untouched(&dts, 0)
-            && untouched(&dfs, 0)
-            && untouched(&df1s, 0)
-            && untouched(&df2s, 0)
-            && untouched(&log, 0);
-    }
-    let Some(lines) = d.lines else {
-        return false;
-    };
+    let lent: [&[f64]; 5] = [&log, &dts, &dfs, &df1s, &df2s];
     let after = answer_lines::from(answer, 1);
-    if !same_fit(after, f) {
-        return false;
-    }
-    same_outputs(
-        answer_lines::from(after, 7),
-        &dts,
-        &dfs,
-        &df1s,
-        &df2s,
-        &log,
-        lines,
-        &text,
-    )
+    left_right(found, &lent, &scratch)
+        && answer_lines::result_is(answer, found, |d| {
+            same_fit(after, d.fit)
+                && same_outputs(answer_lines::from(after, 7), &lent, d.lines, &text)
+        })
 }
 
 fn determine(line: &[u8]) -> bool {
@@ -165,8 +113,5 @@ fn determine(line: &[u8]) -> bool {
 }
 
 pub(crate) fn agrees(line: &[u8]) -> bool {
-    if answer_lines::begins_with(line, b"determine ") {
-        return determine(line);
-    }
-    false
+    answer_lines::begins_with(line, b"determine ") && determine(line)
 }
