@@ -1,7 +1,7 @@
 -- Laws on the definitions of specs/: what a turn of each loop does to them. Assumes nothing.
 use mathlib.Core.Path.{◌≡◌, refl, sym, ap, ◌∙◌}
 use mathlib.Core.Bool.{Bool, true, false, not}
-use mathlib.Core.List.{List, [], ◌∷◌, ◌++◌, append_assoc, append-nil}
+use mathlib.Core.List.{List, [], ◌∷◌, ◌++◌, map, append_assoc, append-nil}
 use mathlib.Core.Option.{Option, none, some}
 use Prim.Native.Nat.{ℕ, suc, ◌+◌, ◌-◌, ◌*◌, ◌<◌, ◌≤◌}
 use native.Mathlib.Nat.{add-sub_cancel_left, le_antisymm}
@@ -12,7 +12,7 @@ use lib.Seq.{drop-cons, take-suc-set, take_at, length-take-le}
 use lib.Dec.{eqb}
 use borrow.Author.Tests.{ne_eqb}
 use borrow.Rule.Slice.PartMut.{mid_of, put_mid, post_of, mid_len, same_len_mid}
-use lib.Ieee.{Float, nan}
+use lib.Ieee.{Float}
 use Rattle.std.proofs.lemmas.List.{take_all}
 use Rattle.float.specs.Ops.{◌⊕◌, ◌⊖◌, ◌⊗◌, bits, at}
 use Rattle.pass_set.specs.PassSet.{total}
@@ -27,6 +27,7 @@ use Rattle.std.proofs.Common.{Result, Ok, Err}
 use Rattle.refusal.specs.Refusals.{answer, first_of, ◌when◌}
 use Rattle.refusal.specs.declared.Refusal.{Refusal}
 use Rattle.refusal.specs.declared.Refusal.TheVariants.{FarMoment}
+use Rattle.std.specs.List.{fold}
 use Rattle.residuals.specs.Samples.{Passes}
 use Rattle.residuals.specs.Residuals.{◌then◌, elements_of, dt_of, pass_bias, shift_of, prediction_of, residual, samples, passes, dt_weight_bits, df1_weight_bits, df2_weight_bits, dt_penalties, drift_penalties, penalties, rows_of, residuals, sum_squares, sum_of}
 use Rattle.residuals.specs.Answers.{filled_answer, Filled, Summed}
@@ -229,16 +230,11 @@ module _ (x : List Float) (p n : ℕ) where
   unfolding drift_penalties
   drift_end h = ap (drift_penalties x p) (none_left n p h)
 
-module _ (r : List Float) (sum : Float) (k : ℕ) where
-  pub squares_next : k < length r → sum_squares sum (drop k r) ≡ sum_squares (sum ⊕ at r k ⊗ at r k) (drop (k + 1) r)
-  unfolding sum_squares
-  squares_next h =
-      ap (sum_squares sum) (drop-cons r k nan h)
-      ∙ ap (λ (j : ℕ). sum_squares (sum ⊕ at r k ⊗ at r k) (drop j r)) (sym (add-one k))
-
-  pub squares_end : length r ≤ k → sum_squares sum (drop k r) ≡ sum
-  unfolding sum_squares
-  squares_end h = ap (sum_squares sum) (drop_of_length-le r {i = k} h)
+-- as the library adds them
+pub squares_fold : (r : List Float) (sum : Float) → fold (λ (a x : Float). a ⊕ x) sum (map (λ (x : Float). x ⊗ x) r) ≡ sum_squares sum r
+unfolding sum_squares
+squares_fold [] sum = refl
+squares_fold (v ∷ r) sum = squares_fold r (sum ⊕ v ⊗ v)
 
 -- ---- the whole
 

@@ -254,15 +254,11 @@ pub fn residuals_into<const SECOND: bool>(
     Ok(())
 }
 
-// The squares of all numbers, added in order from -0.0 on, as Rust's sum does.
+// The squares of all numbers, added in order from -0.0 on.
 fn sum_squares(r: &[f64]) -> f64
     ensures { result ≡ sum_squares (neg (bits 0)) r.now }
 {
-    let mut sum = -0.0;
-    for v in r {
-        sum += v * v;
-    }
-    sum
+    r.iter().map(|v| v * v).sum()
 }
 
 // What a trial compares, with the residuals left in the first places of out.

@@ -1,13 +1,15 @@
--- `sum_squares` meets its contract: the squares still to come, added to what is summed, make the whole. Assumes nothing.
-use mathlib.Core.Path.{refl, sym, ◌∙◌}
-use Rattle.residuals.proofs.Laws.{squares_next, squares_end}
+-- `sum_squares` meets its contract: the library adds in the definition's order, from -0.0 on. Assumes nothing.
+use mathlib.Core.Path.{◌∙◌}
+use Rattle.std.proofs.Common.{rules, tests}
+use Rattle.std.proofs.lemmas.Iterator.{YieldsList-from_slice, YieldsList-from_map}
+use Rattle.std.proofs.lemmas.Iterator.Adapters.{total_from_yields_List}
+use lib.Ieee.{Float}
+use Rattle.float.specs.Ops.{◌⊕◌, ◌⊗◌}
+use Rattle.residuals.proofs.Laws.{squares_fold}
 use Rattle.residuals.proofs.sum_squares.Goals as goal
 
-pub loop-v-init : goal.loop-v-init
-loop-v-init c = refl
-
-pub loop-v-preserved : goal.loop-v-preserved
-loop-v-preserved c = sym (squares_next c.args.r.now c.loop-v.sum c.loop-v.v-index c.loop-v-test.true) ∙ c.loop-v.invariant
-
 pub returns : goal.returns
-returns c = sym (squares_end c.args.r.now c.loop-v.sum c.loop-v.v-index c.loop-v-test.false) ∙ c.loop-v.invariant
+returns c =
+    total_from_yields_List (λ (a x : Float). a ⊕ x) _ _ c.sum.ensures.ran
+    (YieldsList-from_map _ (λ (x : Float). x ⊗ x) (YieldsList-from_slice c.args.r.now cc) c.map.ensures.closure (λ x r q k. search (rules, tests)))
+    ∙ squares_fold c.args.r.now _
