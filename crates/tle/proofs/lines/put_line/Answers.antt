@@ -1,4 +1,4 @@
-use Rattle.std.proofs.Common.{arith, sym, ◌∙◌, ◌+◌, length, ℕ}
+use Rattle.std.proofs.Common.{arith, ◌+◌, length}
 use mathlib.Core.List.{append_assoc}
 use lib.Seq.{sets-eq}
 use borrow.Rule.Slice.PartMut.{Post-is}
