@@ -1,6 +1,6 @@
 -- A line walked column by column, by the code's table. Assumes nothing.
 use mathlib.Core.Path.{◌≡◌, refl, sym, ap, ◌∙◌}
-use mathlib.Core.Bool.{Bool, true, false, true≢false, ◌&&◌, ◌||◌}
+use mathlib.Core.Bool.{Bool, true, false, true≢false, ◌&&◌}
 use mathlib.Core.List.{List, [], ◌∷◌, map}
 use Prim.Native.Nat.{ℕ, suc, ◌+◌, ◌≤◌, ◌<◌}
 use native.Mathlib.Nat.{le_antisymm}
@@ -52,9 +52,6 @@ end b i t l e h k =
     ap (λ (n : ℕ). matches_behind b (map column_class (drop n t)) (drop i l)) g ∙ ap (λ (n : ℕ). matches_behind b (map column_class (drop (length t) t)) (drop n l)) f ∙ rw (drop-length t, drop-length l)
 
 -- ---- tests
-pub or_none : (b : Bool) → b ≡ (b || false)
-or_none true = refl
-or_none false = refl
 
 -- a line that is right has 69 bytes
 pub length_1 : (l : List ℕ) → matches_line readable1 l ≡ true → length l ≡ 69
