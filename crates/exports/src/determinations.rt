@@ -3,18 +3,18 @@
 ghost use Rattle.std.specs.Prelude.{◌≡◌};
 ghost use Rattle.frame.specs.Rotation.{place};
 ghost use Rattle.fit.specs.Answer.{arguments, outputs};
-ghost use Rattle.determination.specs.Calls.{bytes_written};
-ghost use Rattle.exports.specs.Determinations.{lines_status, DeterminesTo, DeterminesStoredTo};
+ghost use Rattle.exports.specs.Determinations.{Told, DeterminesTo, DeterminesStoredTo};
 ghost use Rattle.exports.specs.Elements.{orbit};
 ghost use Rattle.exports.specs.Fits.{fitted};
 
 use super::fits;
 use determination::Determination;
 use frame::Vec3;
+use refusal::Refusal;
 
 // Puts an answer's numbers to places of their own, and gives the fit's refusal.
 fn put(
-    answer: Determination,
+    answer: Result<Determination, Refusal>,
     a: &mut f64,
     i: &mut f64,
     raan0: &mut f64,
@@ -26,18 +26,16 @@ fn put(
     lines: &mut u32,
     length: &mut usize,
 ) -> u32
-    ensures fit { answer.fit ≡ fitted (orbit a.new i.new raan0.new u0.new epoch.new epoch_nanos.new)
-        trials.new best.new result }
-    ensures lines { lines.new ≡ lines_status answer.fit.refusal answer.lines }
-    ensures length { length.new ≡ bytes_written answer.lines }
+    ensures { Told answer (fitted (orbit a.new i.new raan0.new u0.new epoch.new epoch_nanos.new) trials.new best.new)
+        lines.new length.new result }
 {
     *length = 0;
-    *lines = match answer.lines {
-        Some(written) => refusal::report(written, length),
-        None => answer.fit.refusal,
+    *lines = match answer {
+        Ok(d) => refusal::report(d.lines, length),
+        Err(refusal) => refusal.number(),
     };
     fits::put(
-        answer.fit,
+        answer.map(|d| d.fit),
         a,
         i,
         raan0,
@@ -83,8 +81,8 @@ pub extern "C" fn wisvalom_fit_and_format(
         (outputs dts.old dfs.old df1s.old df2s.old log.old)
         (outputs dts.new dfs.new df1s.new df2s.new log.new) scratch.old scratch.new
         name.now text.old text.new
-        (fitted (orbit a.new i.new raan0.new u0.new epoch.new epoch_nanos.new) trials.new best.new result)
-        lines.new length.new }
+        (fitted (orbit a.new i.new raan0.new u0.new epoch.new epoch_nanos.new) trials.new best.new)
+        lines.new length.new result }
 {
     let answer = determination::fit_and_format(
         counts,
@@ -151,8 +149,8 @@ pub extern "C" fn wisvalom_fit_and_format_stored(
         (outputs dts.old dfs.old df1s.old df2s.old log.old)
         (outputs dts.new dfs.new df1s.new df2s.new log.new) scratch.old scratch.new
         name.now text.old text.new
-        (fitted (orbit a.new i.new raan0.new u0.new epoch.new epoch_nanos.new) trials.new best.new result)
-        lines.new length.new }
+        (fitted (orbit a.new i.new raan0.new u0.new epoch.new epoch_nanos.new) trials.new best.new)
+        lines.new length.new result }
 {
     let answer = determination::fit_and_format_stored(
         bytes,

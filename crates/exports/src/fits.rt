@@ -2,15 +2,35 @@
 ghost use Rattle.std.specs.Prelude.{◌≡◌};
 ghost use Rattle.frame.specs.Rotation.{place};
 ghost use Rattle.fit.specs.Answer.{arguments, outputs};
+ghost use Rattle.refusal.specs.Refusals.{status_of, left_by};
 ghost use Rattle.exports.specs.Elements.{orbit};
-ghost use Rattle.exports.specs.Fits.{fitted, FitsTo};
+ghost use Rattle.exports.specs.Fits.{fitted, no_fit, FitsTo};
 
 use fit::Fit;
 use frame::Vec3;
+use moment::Moment;
+use refusal::Refusal;
+use solution::SolvedOrbit;
+
+// What stands in the places after a refusal.
+const NO_FIT: Fit = Fit {
+    orbit: SolvedOrbit {
+        a: 0.0,
+        i: 0.0,
+        raan0: 0.0,
+        u0: 0.0,
+        epoch: Moment {
+            seconds: 0,
+            nanos: 0,
+        },
+    },
+    trials: 0,
+    best: 0.0,
+};
 
 // Puts an answer's numbers to places of their own, and gives its refusal.
 pub fn put(
-    answer: Fit,
+    answer: Result<Fit, Refusal>,
     a: &mut f64,
     i: &mut f64,
     raan0: &mut f64,
@@ -20,21 +40,23 @@ pub fn put(
     trials: &mut usize,
     best: &mut f64,
 ) -> u32
-    ensures { answer ≡ fitted (orbit a.new i.new raan0.new u0.new epoch.new epoch_nanos.new)
-        trials.new best.new result }
+    ensures status { result ≡ status_of answer }
+    ensures put { fitted (orbit a.new i.new raan0.new u0.new epoch.new epoch_nanos.new)
+        trials.new best.new ≡ left_by no_fit answer }
 {
-    let solved = answer.orbit;
-    let at = solved.epoch;
+    let mut fit = NO_FIT;
+    let status = refusal::report(answer, &mut fit);
+    let solved = fit.orbit;
     *a = solved.a;
     *i = solved.i;
     *raan0 = solved.raan0;
     *u0 = solved.u0;
-    let seconds = at.seconds;
+    let seconds = solved.epoch.seconds;
     *epoch = seconds;
-    *epoch_nanos = at.nanos;
-    *trials = answer.trials;
-    *best = answer.best;
-    answer.refusal
+    *epoch_nanos = solved.epoch.nanos;
+    *trials = fit.trials;
+    *best = fit.best;
+    status
 }
 
 #[unsafe(no_mangle)]
