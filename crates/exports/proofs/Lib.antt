@@ -1,4 +1,0 @@
-pub mod Given
-pub mod Reading
-pub mod Told
-pub mod Written
