@@ -1,19 +1,20 @@
 // The fit, and what comes of it.
 ghost use Rattle.std.specs.Prelude.{length};
-ghost use Rattle.ordering.specs.Order.{Alike};
 ghost use Rattle.pass_set.specs.PassSet.{Sizes};
 ghost use Rattle.pass_checks.specs.Checks.{Whole};
 
+use crate::Command;
 use command::report;
 use command::report::Biases;
-use command_words::Layout;
+use command_words::{Layout, Mast};
 use determination::Determination;
+use fit::Fit;
 use frame::Vec3;
 use refusal::Refusal;
 use solution::SolvedOrbit;
 use std::env::Env;
 use std::io;
-use std::io::{Stderr, Stdout};
+use std::io::Stderr;
 
 // Which of orbit and name cannot be printed: an orbit that can be under another name is not at fault.
 fn unprintable(stderr: Stderr, orbit: SolvedOrbit) {
@@ -27,7 +28,7 @@ fn unprintable(stderr: Stderr, orbit: SolvedOrbit) {
 fn lines_refused(stderr: Stderr, refusal: Refusal, orbit: SolvedOrbit) {
     match refusal {
         Refusal::Unprintable => unprintable(stderr, orbit),
-        _ => messages::refusal(stderr, refusal.number()),
+        _ => messages::refusal(stderr, refusal),
     }
 }
 
@@ -37,262 +38,202 @@ fn turned(received: bool, b: Biases) -> Biases {
         return b;
     }
     Biases {
-        sampled: b.sampled,
-        dt: b.dt,
         df: -b.df,
         df1: -b.df1,
         df2: -b.df2,
+        ..b
     }
 }
 
 // The word of file i, the first being word `first`.
 fn word_of(i: usize, first: usize) -> usize {
-    if 16 < i {
-        return 0;
-    }
-    if 6 < first {
+    if 16 < i || 6 < first {
         return 0;
     }
     i + first
 }
 
-// The biases of each file, by time.
-fn biases(
-    rt: &impl Env,
-    stderr: Stderr,
-    layout: Layout,
-    order: &[usize],
-    counts: &[u32],
-    dts: &[f64],
-    dfs: &[f64],
-    df1s: &[f64],
-    df2s: &[f64],
-) {
-    let received = layout.received;
-    let first = layout.first;
-    for (p, file) in order.iter().enumerate() {
-        let b = report::biases_of(counts, p, dts, dfs, df1s, df2s);
-        messages::pass(rt, stderr, word_of(*file, first), turned(received, b));
-    }
+// The set that was fitted, the numbers that its passes had, and the biases that the fit gave its non-empty passes.
+#[derive(Clone, Copy)]
+struct Fitted<'a> {
+    order: &'a [usize],
+    counts: &'a [u32],
+    times: &'a [i64],
+    freqs: &'a [f64],
+    centers: &'a [f64],
+    dts: &'a [f64],
+    dfs: &'a [f64],
+    df1s: &'a [f64],
+    df2s: &'a [f64],
 }
 
-// With over 16 passes nothing is told; the fit takes no more.
-fn tell_noise(stderr: Stderr, rms: f64, counts: &[u32], times: &[i64], freqs: &[f64]) {
-    if 16 < counts.len() {
-        return;
+impl<'a> Fitted<'a> {
+    // The residual of this orbit, in Hz.
+    fn rms(&self, rec_ecef: Vec3, orbit: SolvedOrbit) -> f64 {
+        report::rms(
+            self.counts,
+            self.times,
+            self.freqs,
+            self.centers,
+            rec_ecef,
+            orbit,
+            self.dts,
+            self.dfs,
+            self.df1s,
+            self.df2s,
+        )
     }
-    let full = arguments::non_empty(counts);
-    messages::noise(
-        stderr,
-        rms,
-        noise::estimate(counts, times, freqs),
-        full.passes,
-    );
-}
 
-// Why there is no fit; `nan` is the first file with a frequency that is not a number, if there is one.
-fn fit_refused(rt: &impl Env, stderr: Stderr, k: u32, first: usize, nan: Option<usize>) {
-    match nan {
-        Some(i) if k == refusal::NAN_FREQUENCY => {
-            messages::file_refusal(rt, stderr, word_of(i, first), k);
+    // With over 16 passes nothing is told; the fit takes no more.
+    fn tell_noise(&self, stderr: Stderr, rms: f64) {
+        if 16 < self.counts.len() {
+            return;
         }
-        _ => messages::refusal(stderr, k),
+        let full = arguments::non_empty(self.counts);
+        let estimate = noise::estimate(self.counts, self.times, self.freqs);
+        messages::noise(stderr, rms, estimate, full.passes);
     }
-}
 
-// The report of an accepted fit, or why there is none.
-fn report(
-    rt: &impl Env,
-    stderr: Stderr,
-    layout: Layout,
-    nan: Option<usize>,
-    order: &[usize],
-    d: Determination,
-    counts: &[u32],
-    times: &[i64],
-    freqs: &[f64],
-    centers: &[f64],
-    rec_ecef: Vec3,
-    dts: &[f64],
-    dfs: &[f64],
-    df1s: &[f64],
-    df2s: &[f64],
-) {
-    let f = d.fit;
-    if f.refusal != 0 {
-        fit_refused(rt, stderr, f.refusal, layout.first, nan);
-        return;
-    }
-    let orbit = f.orbit;
-    if let Some(Err(refusal)) = d.lines {
-        lines_refused(stderr, refusal, orbit);
-        return;
-    }
-    let rms = report::rms(
-        counts, times, freqs, centers, rec_ecef, orbit, dts, dfs, df1s, df2s,
-    );
-    messages::fit(stderr, f.trials, f.best, rms, times.len(), counts.len());
-    tell_noise(stderr, rms, counts, times, freqs);
-    biases(rt, stderr, layout, order, counts, dts, dfs, df1s, df2s);
-}
-
-// Fits the set, writes what `outcome` says to standard output, and tells of it; fails where it cannot be written. Callers meet the
-// `requires`, here and of `fit`, by proof.
-fn solve(
-    rt: &impl Env,
-    stdout: Stdout,
-    stderr: Stderr,
-    layout: Layout,
-    nan: Option<usize>,
-    counts: &[u32],
-    times: &[i64],
-    freqs: &mut [f64],
-    centers: &[f64],
-    rec_ecef: Vec3,
-    initial_i: f64,
-    name: &[u8],
-    order: &mut [usize],
-    counts_out: &mut [u32],
-    times_out: &mut [i64],
-    freqs_out: &mut [f64],
-    centers_out: &mut [f64],
-) -> io::Result<()>
-    requires { Sizes counts.now (length times.now) (length freqs.old) (length centers.now)
-        × Alike (length counts.now) (length order.old) (length counts_out.old) (length centers_out.old) (length counts.now)
-        × Alike (length times.now) (length times.now) (length times.now) (length times_out.old) (length freqs_out.old) }
-{
-    let mut dts = [0.0f64; 16];
-    let mut dfs = [0.0f64; 16];
-    let mut df1s = [0.0f64; 16];
-    let mut df2s = [0.0f64; 16];
-    let mut log = [0.0f64; 150];
-    // What 16 passes and 4,096 samples need: (4096 + 3 * 16) * (5 + 4 * 16) + 20000.
-    let mut scratch = [0.0f64; 305936];
-    let mut text = [0u8; 256];
-    let d = outcome::outcome(
-        layout.received,
-        counts,
-        times,
-        freqs,
-        centers,
-        rec_ecef,
-        initial_i,
-        order,
-        counts_out,
-        times_out,
-        freqs_out,
-        centers_out,
-        &mut dts,
-        &mut dfs,
-        &mut df1s,
-        &mut df2s,
-        &mut log,
-        &mut scratch,
-        name,
-        &mut text,
-    );
-    let written = stdout.write_all(&text[..d.bytes_written()]);
-    report(
-        rt,
-        stderr,
-        layout,
-        nan,
-        order,
-        d,
-        counts_out,
-        times_out,
-        freqs_out,
-        centers_out,
-        rec_ecef,
-        &dts,
-        &dfs,
-        &df1s,
-        &df2s,
-    );
-    written
-}
-
-fn fit(
-    rt: &impl Env,
-    stdout: Stdout,
-    stderr: Stderr,
-    layout: Layout,
-    nan: Option<usize>,
-    counts: &[u32],
-    times: &[i64],
-    freqs: &mut [f64],
-    centers: &[f64],
-    rec_ecef: Vec3,
-    initial_i: f64,
-    name: &[u8],
-) -> io::Result<()>
-    requires { Sizes counts.now (length times.now) (length freqs.old) (length centers.now) }
-{
-    let p = counts.len();
-    let s = times.len();
-    let mut order = [0usize; 16];
-    let mut counts_out = [0u32; 16];
-    let mut times_out = [0i64; 4096];
-    let mut freqs_out = [0.0f64; 4096];
-    let mut centers_out = [0.0f64; 16];
-    solve(
-        rt,
-        stdout,
-        stderr,
-        layout,
-        nan,
-        counts,
-        times,
-        freqs,
-        centers,
-        rec_ecef,
-        initial_i,
-        name,
-        &mut order[..p],
-        &mut counts_out[..p],
-        &mut times_out[..s],
-        &mut freqs_out[..s],
-        &mut centers_out[..p],
-    )
-}
-
-// Each file with the samples of one before it.
-fn tell_twins(
-    rt: &impl Env,
-    stderr: Stderr,
-    first: usize,
-    counts: &[u32],
-    times: &[i64],
-    freqs: &[f64],
-)
-    requires { Whole counts.now (length times.now) × Whole counts.now (length freqs.now) }
-{
-    for q in 0..counts.len() {
-        if let Some(p) = pass_checks::twin(counts, times, freqs, q) {
-            messages::twice(rt, stderr, word_of(q, first), word_of(p, first));
+    // The biases of each file, by time.
+    fn tell_biases(&self, rt: &impl Env, stderr: Stderr, layout: Layout) {
+        for (p, file) in self.order.iter().enumerate() {
+            let b = report::biases_of(self.counts, p, self.dts, self.dfs, self.df1s, self.df2s);
+            let word = word_of(*file, layout.first);
+            messages::pass(rt, stderr, word, turned(layout.received, b));
         }
     }
+
+    // The report of an accepted fit.
+    fn report(&self, rt: &impl Env, stderr: Stderr, layout: Layout, rec_ecef: Vec3, fit: Fit) {
+        let rms = self.rms(rec_ecef, fit.orbit);
+        let samples = self.times.len();
+        let passes = self.counts.len();
+        messages::fit(stderr, fit.trials, fit.best, rms, samples, passes);
+        self.tell_noise(stderr, rms);
+        self.tell_biases(rt, stderr, layout);
+    }
 }
 
-// Tells what is odd in the set, and fits it.
-pub fn check_and_fit(
-    rt: &impl Env,
-    stdout: Stdout,
-    stderr: Stderr,
-    layout: Layout,
-    counts: &[u32],
-    times: &[i64],
-    freqs: &mut [f64],
-    centers: &[f64],
-    rec_ecef: Vec3,
-    initial_i: f64,
-    name: &[u8],
-) -> io::Result<()>
-    requires { Sizes counts.now (length times.now) (length freqs.old) (length centers.now) }
-{
-    tell_twins(rt, stderr, layout.first, counts, times, freqs);
-    let nan = pass_checks::nan_pass(counts, freqs);
-    fit(
-        rt, stdout, stderr, layout, nan, counts, times, freqs, centers, rec_ecef, initial_i, name,
-    )
+impl<'a, R: Env> Command<'a, R> {
+    // Why there is no fit; `nan` is the first file with a frequency that is not a number, if there is one.
+    fn fit_refused(&self, layout: Layout, refusal: Refusal, nan: Option<usize>) {
+        match nan {
+            Some(i) if refusal == Refusal::NanFrequency => {
+                messages::file_refusal(self.rt, self.stderr, word_of(i, layout.first), refusal);
+            }
+            _ => messages::refusal(self.stderr, refusal),
+        }
+    }
+
+    // The report, or why an accepted fit has no lines.
+    fn tell(&self, layout: Layout, rec_ecef: Vec3, d: Determination, fitted: &Fitted<'_>) {
+        match d.lines {
+            Ok(_) => fitted.report(self.rt, self.stderr, layout, rec_ecef, d.fit),
+            Err(refusal) => lines_refused(self.stderr, refusal, d.fit.orbit),
+        }
+    }
+
+    // Fits the set, writes what `outcome` says to standard output, and tells of it; fails where it cannot be written.
+    fn fit(
+        &self,
+        layout: Layout,
+        mast: Mast,
+        nan: Option<usize>,
+        counts: &[u32],
+        times: &[i64],
+        freqs: &mut [f64],
+        centers: &[f64],
+        name: &[u8],
+    ) -> io::Result<()>
+        requires { Sizes counts.now (length times.now) (length freqs.old) (length centers.now) }
+    {
+        let p = counts.len();
+        let s = times.len();
+        let mut order = [0usize; 16];
+        let mut counts_out = [0u32; 16];
+        let mut times_out = [0i64; 4096];
+        let mut freqs_out = [0.0f64; 4096];
+        let mut centers_out = [0.0f64; 16];
+        let mut dts = [0.0f64; 16];
+        let mut dfs = [0.0f64; 16];
+        let mut df1s = [0.0f64; 16];
+        let mut df2s = [0.0f64; 16];
+        let mut log = [0.0f64; 150];
+        // What 16 passes and 4,096 samples need: (4096 + 3 * 16) * (5 + 4 * 16) + 20000.
+        let mut scratch = [0.0f64; 305936];
+        let mut text = [0u8; 256];
+        let answer = outcome::outcome(
+            layout.received,
+            counts,
+            times,
+            freqs,
+            centers,
+            mast.rec_ecef,
+            mast.initial_i,
+            &mut order[..p],
+            &mut counts_out[..p],
+            &mut times_out[..s],
+            &mut freqs_out[..s],
+            &mut centers_out[..p],
+            &mut dts,
+            &mut dfs,
+            &mut df1s,
+            &mut df2s,
+            &mut log,
+            &mut scratch,
+            name,
+            &mut text,
+        );
+        match answer {
+            Ok(d) => {
+                let written = self.stdout.write_all(&text[..d.bytes_written()]);
+                let fitted = Fitted {
+                    order: &order[..p],
+                    counts: &counts_out[..p],
+                    times: &times_out[..s],
+                    freqs: &freqs_out[..s],
+                    centers: &centers_out[..p],
+                    dts: &dts,
+                    dfs: &dfs,
+                    df1s: &df1s,
+                    df2s: &df2s,
+                };
+                self.tell(layout, mast.rec_ecef, d, &fitted);
+                written
+            }
+            Err(refusal) => {
+                self.fit_refused(layout, refusal, nan);
+                Ok(())
+            }
+        }
+    }
+
+    // Each file with the samples of one before it.
+    fn tell_twins(&self, first: usize, counts: &[u32], times: &[i64], freqs: &[f64])
+        requires { Whole counts.now (length times.now) × Whole counts.now (length freqs.now) }
+    {
+        for q in 0..counts.len() {
+            if let Some(p) = pass_checks::twin(counts, times, freqs, q) {
+                messages::twice(self.rt, self.stderr, word_of(q, first), word_of(p, first));
+            }
+        }
+    }
+
+    // Tells what is odd in the set, and fits it. Callers meet the `requires`, here and of `fit`, by proof.
+    pub(crate) fn check_and_fit(
+        &self,
+        layout: Layout,
+        mast: Mast,
+        counts: &[u32],
+        times: &[i64],
+        freqs: &mut [f64],
+        centers: &[f64],
+        name: &[u8],
+    ) -> io::Result<()>
+        requires { Sizes counts.now (length times.now) (length freqs.old) (length centers.now) }
+    {
+        self.tell_twins(layout.first, counts, times, freqs);
+        let nan = pass_checks::nan_pass(counts, freqs);
+        self.fit(layout, mast, nan, counts, times, freqs, centers, name)
+    }
 }

@@ -14,66 +14,16 @@ use std::io;
 use std::io::{Stderr, Stdout};
 use std::rt::Files;
 
-// Gathers the files and fits.
-fn fit_files<R: Files + Env>(
-    rt: &R,
+// Where the command's words and files come from, and where it writes.
+#[derive(Drop)]
+struct Command<'a, R> {
+    rt: &'a R,
     stdout: Stdout,
     stderr: Stderr,
-    request: Request,
-) -> io::Result<()>
-    requires { Few request.layout }
-{
-    let layout = request.layout;
-    let first = layout.first;
-    let n = layout.files;
-    let mut counts = [0u32; 16];
-    let mut times = [0i64; 4096];
-    let mut freqs = [0.0f64; 4096];
-    let mut centers = [0.0f64; 16];
-    let mut name = [0u8; 256];
-    let Some(g) = pass_files::gather_files(
-        rt,
-        stderr,
-        first,
-        n,
-        &mut counts,
-        &mut times,
-        &mut freqs,
-        &mut centers,
-        &mut name,
-    ) else {
-        return Ok(());
-    };
-    let p = g.passes;
-    let s = g.samples;
-    let size = g.name.size;
-    if size == 0 {
-        messages::empty_name(stderr);
-    }
-    fitting::check_and_fit(
-        rt,
-        stdout,
-        stderr,
-        layout,
-        &counts[..p],
-        &times[..s],
-        &mut freqs[..s],
-        &centers[..p],
-        request.mast.rec_ecef,
-        request.mast.initial_i,
-        &name[..size],
-    )
 }
 
-// Word i into the first places of out.
-fn word(rt: &impl Env, i: usize, out: &mut [u8]) -> usize
-    ensures { IsPrefixLen result out.new }
-{
-    rt.arg(i, out).unwrap_or(0)
-}
-
-// The same of the word that may be a position line; of one that is too long, as much as finds room: more than any number or position line that
-// is taken has.
+// Word i into the first places of out; of one that is too long, as much as finds room: more than any number or position line that is
+// taken has.
 fn first_word(rt: &impl Env, i: usize, out: &mut [u8]) -> usize
     ensures { IsPrefixLen result out.new }
 {
@@ -91,46 +41,81 @@ fn tell(stderr: Stderr, error: WordsError) {
         WordsError::TooMany => messages::too_many(stderr),
         WordsError::NoNumber(k) => messages::no_number(stderr, k),
         WordsError::LongNumber(k) => messages::long_number(stderr, k),
-        WordsError::NoPlace(refusal) => messages::no_place(stderr, refusal.number()),
+        WordsError::NoPlace(refusal) => messages::no_place(stderr, refusal),
     }
 }
 
-// Of so many words, the program's name among them and `--as-received` not, of which the mast's first is word k. A position line has 256 bytes at
-// most, and a line end.
-fn words_from<R: Files + Env>(
-    rt: &R,
-    stdout: Stdout,
-    stderr: Stderr,
-    k: usize,
-    received: bool,
-    count: usize,
-) -> io::Result<()>
-    requires { k ≤ 2 }
-{
-    let mut x = [0u8; 259];
-    let mut y = [0u8; 64];
-    let mut z = [0u8; 64];
-    let mut i = [0u8; 64];
-    let nx = first_word(rt, k, &mut x);
-    let ny = word(rt, k + 1, &mut y);
-    let nz = word(rt, k + 2, &mut z);
-    let ni = word(rt, k + 3, &mut i);
-    let request = command_words::request_of(
-        received,
-        count,
-        &x[..nx],
-        &y[..ny],
-        &z[..nz],
-        &i[..ni],
-    );
-    match request {
-        Ok(r) => {
-            messages::position(stderr, r.mast.rec_ecef);
-            fit_files(rt, stdout, stderr, r)
+impl<'a, R: Files + Env> Command<'a, R> {
+    // Gathers the files and fits.
+    fn fit_files(&self, request: Request) -> io::Result<()>
+        requires { Few request.layout }
+    {
+        let layout = request.layout;
+        let mut counts = [0u32; 16];
+        let mut times = [0i64; 4096];
+        let mut freqs = [0.0f64; 4096];
+        let mut centers = [0.0f64; 16];
+        let mut name = [0u8; 256];
+        let Some(g) = pass_files::gather_files(
+            self.rt,
+            self.stderr,
+            layout.first,
+            layout.files,
+            &mut counts,
+            &mut times,
+            &mut freqs,
+            &mut centers,
+            &mut name,
+        ) else {
+            return Ok(());
+        };
+        let p = g.passes;
+        let s = g.samples;
+        let size = g.name.size;
+        if size == 0 {
+            messages::empty_name(self.stderr);
         }
-        Err(error) => {
-            tell(stderr, error);
-            Ok(())
+        self.check_and_fit(
+            layout,
+            request.mast,
+            &counts[..p],
+            &times[..s],
+            &mut freqs[..s],
+            &centers[..p],
+            &name[..size],
+        )
+    }
+
+    // Of so many words, the program's name among them and `--as-received` not, of which the mast's first is word k. A position line has 256
+    // bytes at most, and a line end.
+    fn words_from(&self, k: usize, received: bool, count: usize) -> io::Result<()>
+        requires { k ≤ 2 }
+    {
+        let mut x = [0u8; 259];
+        let mut y = [0u8; 64];
+        let mut z = [0u8; 64];
+        let mut i = [0u8; 64];
+        let nx = first_word(self.rt, k, &mut x);
+        let ny = messages::arg(self.rt, k + 1, &mut y);
+        let nz = messages::arg(self.rt, k + 2, &mut z);
+        let ni = messages::arg(self.rt, k + 3, &mut i);
+        let request = command_words::request_of(
+            received,
+            count,
+            &x[..nx],
+            &y[..ny],
+            &z[..nz],
+            &i[..ni],
+        );
+        match request {
+            Ok(r) => {
+                messages::position(self.stderr, r.mast.rec_ecef);
+                self.fit_files(r)
+            }
+            Err(error) => {
+                tell(self.stderr, error);
+                Ok(())
+            }
         }
     }
 }
@@ -138,7 +123,7 @@ fn words_from<R: Files + Env>(
 // Whether the first word says that frequencies are as received.
 fn as_received(rt: &impl Env) -> bool {
     let mut w = [0u8; 64];
-    let n = word(rt, 1, &mut w);
+    let n = messages::arg(rt, 1, &mut w);
     command_words::is_as_received(&w[..n])
 }
 
@@ -155,6 +140,7 @@ fn word_count(rt: &impl Env) -> usize {
 
 // Fails where the lines cannot be written to standard output.
 pub fn run<R: Files + Env>(rt: &R, stdout: Stdout, stderr: Stderr) -> io::Result<()> {
+    let command = Command { rt, stdout, stderr };
     let count = word_count(rt);
     if count == 0 {
         messages::usage(stderr);
@@ -162,8 +148,8 @@ pub fn run<R: Files + Env>(rt: &R, stdout: Stdout, stderr: Stderr) -> io::Result
     }
     if as_received(rt) {
         messages::received(stderr);
-        return words_from(rt, stdout, stderr, 2, true, count - 1);
+        return command.words_from(2, true, count - 1);
     }
     messages::as_predicted(stderr);
-    words_from(rt, stdout, stderr, 1, false, count)
+    command.words_from(1, false, count)
 }

@@ -1,7 +1,7 @@
 -- `words_from` is safe and ends. Assumes nothing.
 use mathlib.Core.Path.{sym, ◌∙◌}
 use Rattle.command_words.proofs.Counted.{few_files}
-use Rattle.fit_command.proofs.words_from.Goals as goal
+use Rattle.fit_command.proofs.Command.words_from.Goals as goal
 
 pub fit_files-requires : goal.fit_files-requires
 fit_files-requires g c = few_files _ _ _ _ _ _ (sym c.request_of-request.ensures ∙ c.in-Ok.is)
