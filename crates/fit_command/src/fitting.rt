@@ -1,7 +1,6 @@
 // The fit, and what comes of it.
 ghost use Rattle.std.specs.Prelude.{length};
 ghost use Rattle.pass_set.specs.PassSet.{Sizes};
-ghost use Rattle.pass_checks.specs.Checks.{Whole};
 
 use crate::Command;
 use command::report;
@@ -10,6 +9,7 @@ use command_words::{Layout, Mast};
 use determination::Determination;
 use fit::Fit;
 use frame::Vec3;
+use pass_checks::Samples;
 use refusal::Refusal;
 use solution::SolvedOrbit;
 use std::env::Env;
@@ -209,11 +209,9 @@ impl<'a, R: Env> Command<'a, R> {
     }
 
     // Each file with the samples of one before it.
-    fn tell_twins(&self, first: usize, counts: &[u32], times: &[i64], freqs: &[f64])
-        requires { Whole counts.now (length times.now) × Whole counts.now (length freqs.now) }
-    {
-        for q in 0..counts.len() {
-            if let Some(p) = pass_checks::twin(counts, times, freqs, q) {
+    fn tell_twins(&self, first: usize, set: Samples<'_>) {
+        for q in 0..set.counts.len() {
+            if let Some(p) = set.twin(q) {
                 messages::twice(self.rt, self.stderr, word_of(q, first), word_of(p, first));
             }
         }
@@ -232,8 +230,13 @@ impl<'a, R: Env> Command<'a, R> {
     ) -> io::Result<()>
         requires { Sizes counts.now (length times.now) (length freqs.old) (length centers.now) }
     {
-        self.tell_twins(layout.first, counts, times, freqs);
-        let nan = pass_checks::nan_pass(counts, freqs);
+        let set = Samples {
+            counts,
+            times,
+            freqs,
+        };
+        self.tell_twins(layout.first, set);
+        let nan = set.nan_pass();
         self.fit(layout, mast, nan, counts, times, freqs, centers, name)
     }
 }

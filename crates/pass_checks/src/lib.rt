@@ -1,5 +1,5 @@
 // What the command tells of a gathered pass set: a pass that is there twice, a frequency that is not a number, and a file of another
-// satellite's name. `nan_pass` and `twin` ask for sizes that agree; the command meets that by proof.
+// satellite's name. `twin` asks for a pass that is there; the command meets that by proof.
 #![tactic(auto)]
 
 ghost use Rattle.std.specs.Prelude.{◌≡◌, ◌<◌, length};
@@ -10,38 +10,49 @@ ghost use Rattle.pass_checks.specs.Checks.{alike, nan_pass, twin_of, other_name,
 use ordering::pass_of;
 use passes::file;
 
-// Whether a frequency of pass p is NaN.
-fn nan_in(counts: &[u32], freqs: &[f64], p: usize) -> bool
-    requires { Whole counts.now (length freqs.now) × (p < length counts.now) }
-    ensures { result ≡ any_nan (pass_of counts.now p freqs.now) }
-{
-    arguments::any_nan(pass_of(counts, freqs, p))
+// The samples of a gathered set, pass after pass: times in nanoseconds since 1970, frequencies in Hz. A moment may be out of range, and a
+// frequency no number.
+#[derive(Clone, Copy)]
+pub struct Samples<'a> {
+    pub counts: &'a [u32],
+    pub times: &'a [i64],
+    pub freqs: &'a [f64],
+    ghost sizes: { Whole counts.now (length times.now) × Whole counts.now (length freqs.now) },
 }
 
-// The first pass with a frequency that is NaN.
-pub fn nan_pass(counts: &[u32], freqs: &[f64]) -> Option<usize>
-    requires { Whole counts.now (length freqs.now) }
-    ensures { result ≡ nan_pass counts.now freqs.now }
-{
-    (0..counts.len()).find(|p| nan_in(counts, freqs, *p))
-}
+impl<'a> Samples<'a> {
+    // Whether a frequency of pass p is NaN.
+    fn nan_in(&self, p: usize) -> bool
+        requires { p < length self.now.counts.now }
+        ensures { result ≡ any_nan (pass_of self.now.counts.now p self.now.freqs.now) }
+    {
+        arguments::any_nan(pass_of(self.counts, self.freqs, p))
+    }
 
-// Whether pass p has samples and pass q the same ones.
-fn is_alike(counts: &[u32], times: &[i64], freqs: &[f64], p: usize, q: usize) -> bool
-    requires { Whole counts.now (length times.now) × Whole counts.now (length freqs.now) × (p < length counts.now) × (q < length counts.now) }
-    ensures { result ≡ alike counts.now times.now freqs.now p q }
-{
-    counts[p] != 0
-        && pass_of(counts, times, p) == pass_of(counts, times, q)
-        && pass_of(counts, freqs, p) == pass_of(counts, freqs, q)
-}
+    // The first pass with a frequency that is NaN.
+    pub fn nan_pass(&self) -> Option<usize>
+        ensures { result ≡ nan_pass self.now.counts.now self.now.freqs.now }
+    {
+        (0..self.counts.len()).find(|p| self.nan_in(*p))
+    }
 
-// The first pass before q with the same samples.
-pub fn twin(counts: &[u32], times: &[i64], freqs: &[f64], q: usize) -> Option<usize>
-    requires { Whole counts.now (length times.now) × Whole counts.now (length freqs.now) × (q < length counts.now) }
-    ensures { result ≡ twin_of counts.now times.now freqs.now q }
-{
-    (0..q).find(|p| is_alike(counts, times, freqs, *p, q))
+    // Whether pass p has samples and pass q the same ones.
+    fn is_alike(&self, p: usize, q: usize) -> bool
+        requires { (p < length self.now.counts.now) × (q < length self.now.counts.now) }
+        ensures { result ≡ alike self.now.counts.now self.now.times.now self.now.freqs.now p q }
+    {
+        self.counts[p] != 0
+            && pass_of(self.counts, self.times, p) == pass_of(self.counts, self.times, q)
+            && pass_of(self.counts, self.freqs, p) == pass_of(self.counts, self.freqs, q)
+    }
+
+    // The first pass before q with the same samples.
+    pub fn twin(&self, q: usize) -> Option<usize>
+        requires { q < length self.now.counts.now }
+        ensures { result ≡ twin_of self.now.counts.now self.now.times.now self.now.freqs.now q }
+    {
+        (0..q).find(|p| self.is_alike(*p, q))
+    }
 }
 
 // Whether the file is one that is accepted, and has a name, and another than this.
