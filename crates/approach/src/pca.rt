@@ -1,11 +1,13 @@
 // The closest moments of passes. Inner functions: they ask for moments in range and samples in pairs.
 ghost use Rattle.std.specs.Prelude.{◌≡◌, ◌+◌, ◌*◌, ◌≤◌, ◌<◌, length, get_or, pos};
+ghost use Rattle.frame.specs.Rotation.{turn_at};
 ghost use Rattle.moment.specs.Range.{Within};
 ghost use Rattle.moment.specs.Sample.{Timed, instant_at};
 ghost use Rattle.approach.specs.Pca.{obs_pca_at, obs_pca_time, square_of, closer_of, searched_of, closest_of, pred_pca_time, pca_times_of};
-ghost use Rattle.approach.specs.Turns.{listed, reach, Around, Beside, Window, Held, Windowed, window};
+ghost use Rattle.approach.specs.Turns.{listed, reach, Around, Beside, Window, Windowed, window};
 
 use crate::{Closest, Nearest, Stage, View};
+use float::trig::SinCos;
 use frame::{State, Vec3};
 use moment::Instant;
 use orbit::Elements;
@@ -53,12 +55,11 @@ fn square(s: State, rec: Vec3) -> f64
     orbit::doppler::dot(dx, dy, dz, dx, dy, dz)
 }
 
-// By entry j of a table.
-fn closer(v: View, table: Option<&[f64]>, j: usize, t: Instant, s: Closest) -> Closest
-    requires { Within reach t.secs t.nanos × Held (listed table) j t.secs t.nanos }
+// By the Earth's rotation at t.
+fn closer(v: View, turn: SinCos, t: Instant, s: Closest) -> Closest
+    requires { Within reach t.secs t.nanos × (turn ≡ turn_at t.secs t.nanos) }
     ensures { result ≡ closer_of v.sight.station v.sight.e t.nanos t.secs s }
 {
-    let turn = crate::turns::turn_at(table, j, t);
     let sight = v.sight;
     let tau = moment::time::tau(t, sight.station.epoch);
     let d = square(
@@ -92,8 +93,9 @@ fn search_around(
     let mut best = s;
     for m in 0..stage.n {
         let secs = start + stage.step * m;
-        let j = at + (secs - base) as usize;
-        best = closer(v, table, j, Instant { secs, nanos }, best);
+        let t = Instant { secs, nanos };
+        let turn = crate::turns::turn_at(table, at + (secs - base) as usize, t);
+        best = closer(v, turn, t, best);
     }
     best
 }

@@ -1,22 +1,23 @@
 // The sum of squares of a pass set, and its four differences. Inner functions: they ask for an epoch that passed refusal 4.
 ghost use Rattle.std.specs.Prelude.{◌≡◌, ◌<◌, length};
+ghost use Rattle.frame.specs.Rotation.{turn_at};
 ghost use Rattle.moment.specs.Range.{Within};
 ghost use Rattle.approach.specs.Sums.{prediction_at, sample_of, samples_of, pass_sum_of, rss_of, gradient_of, Shifted};
 ghost use Rattle.approach.specs.Turns.{listed, Shift, Held, Windowed, Sampled, moments};
 
 use crate::turns::Prepared;
 use crate::{Gradient, View};
+use float::trig::SinCos;
 use moment::Instant;
 use orbit::Elements;
 use orbit::doppler::Station;
 use pass_set::Pass;
 
-// A prediction with no bias, by entry j of a table. By what is asked of dt no adjusted moment is too far.
-fn shift_at(v: View, dt: f64, t: Instant, table: Option<&[f64]>, j: usize) -> f64
-    requires { Shift dt × Within 0 t.secs t.nanos × Held (listed table) j t.secs t.nanos }
+// A prediction with no bias, by the Earth's rotation at t. By what is asked of dt no adjusted moment is too far.
+fn shift_at(v: View, dt: f64, t: Instant, turn: SinCos) -> f64
+    requires { Shift dt × Within 0 t.secs t.nanos × (turn ≡ turn_at t.secs t.nanos) }
     ensures { Shifted result (prediction_at v.sight.station v.sight.e dt t) }
 {
-    let turn = crate::turns::turn_at(table, j, t);
     orbit::doppler::predict(v.sight, t, turn, dt, 0.0, 0.0).unwrap()
 }
 
@@ -27,7 +28,8 @@ fn sample(v: View, dt: f64, table: Option<&[f64]>, j: usize, pass: &Pass, n: usi
 {
     let freq = pass.freqs[n];
     let t = crate::pca::moment_at(pass.times, n);
-    let pred_f = shift_at(v, dt, t, table, j);
+    let turn = crate::turns::turn_at(table, j, t);
+    let pred_f = shift_at(v, dt, t, turn);
     let diff = freq - (v.sight.station.center_freq + pred_f);
     rss + diff * diff
 }

@@ -10,8 +10,8 @@ tau-tau-requires c = (within_sound reach _ _ (lit≤ tt) c.requires.0, within_so
 
 pub returns-then-d-s : goal.returns-then-d-s
 returns-then-d-s c =
-    closer_taken c.args.v.sight _ _ _ _ _ _ _ c.turn_at-turn.ensures c.tau-tau.ensures c.propagate.ensures c.square-d.ensures c.if-d-s.true
+    closer_taken c.args.v.sight _ _ _ _ _ _ _ c.requires.1 c.tau-tau.ensures c.propagate.ensures c.square-d.ensures c.if-d-s.true
 
 pub returns-else-d-s : goal.returns-else-d-s
 returns-else-d-s c =
-    closer_left c.args.v.sight _ _ _ _ _ _ _ c.turn_at-turn.ensures c.tau-tau.ensures c.propagate.ensures c.square-d.ensures c.if-d-s.false
+    closer_left c.args.v.sight _ _ _ _ _ _ _ c.requires.1 c.tau-tau.ensures c.propagate.ensures c.square-d.ensures c.if-d-s.false

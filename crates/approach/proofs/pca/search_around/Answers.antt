@@ -25,20 +25,25 @@ overflow_add-secs c =
     let l = c.requires.0.late in
     omega (arith, i.high, l)
 
-pub overflow_sub-j : goal.overflow_sub-j
-overflow_sub-j c =
+pub overflow_sub-secs : goal.overflow_sub-secs
+overflow_sub-secs c =
     let i = inside _ _ _ _ c.loop-m.m c.requires.0 c.loop-m-test.true in
     omega (arith, i.low)
 
-pub overflow_add-j : goal.overflow_add-j
-overflow_add-j c =
+pub overflow_add-at : goal.overflow_add-at
+overflow_add-at c =
     let i = inside _ _ _ _ c.loop-m.m c.requires.0 c.loop-m-test.true in
     omega (arith, i.high, c.requires.1.small)
+
+pub turn_at-turn-requires : goal.turn_at-turn-requires
+turn_at-turn-requires c =
+    let i = inside _ _ _ _ c.loop-m.m c.requires.0 c.loop-m-test.true in
+    (inside_within _ c.requires.0 i, inside_held _ c.requires.1 i)
 
 pub closer-best-requires : goal.closer-best-requires
 closer-best-requires c =
     let i = inside _ _ _ _ c.loop-m.m c.requires.0 c.loop-m-test.true in
-    (inside_within _ c.requires.0 i, inside_held _ c.requires.1 i)
+    (inside_within _ c.requires.0 i, c.turn_at-turn.ensures)
 
 pub overflow_step-m : goal.overflow_step-m
 overflow_step-m c = search loops
