@@ -236,7 +236,7 @@ impl<'a, R: Env> Command<'a, R> {
             freqs,
         };
         self.tell_twins(layout.first, set);
-        let nan = set.nan_pass();
+        let nan = pass_checks::nan_pass(counts, freqs);
         self.fit(layout, mast, nan, counts, times, freqs, centers, name)
     }
 }

@@ -39,7 +39,7 @@ use residuals::PARAMS;
 const ROOM: usize = 4692;
 
 // Where row r, column c of a flat matrix of `rows` rows and n columns is.
-fn place(rows: usize, n: usize, r: usize, c: usize) -> usize
+pub fn place(rows: usize, n: usize, r: usize, c: usize) -> usize
     requires { (rows ≤ 4144) × (n ≤ 68) × (r < rows) × (c < n) }
     ensures { (result ≡ r * n + c) × (result < rows * n) }
 {

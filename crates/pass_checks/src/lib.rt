@@ -10,6 +10,22 @@ ghost use Rattle.pass_checks.specs.Checks.{alike, nan_pass, twin_of, other_name,
 use ordering::pass_of;
 use passes::file;
 
+// Whether a frequency of pass p is NaN.
+fn nan_in(counts: &[u32], freqs: &[f64], p: usize) -> bool
+    requires { Whole counts.now (length freqs.now) × (p < length counts.now) }
+    ensures { result ≡ any_nan (pass_of counts.now p freqs.now) }
+{
+    arguments::any_nan(pass_of(counts, freqs, p))
+}
+
+// The first pass with a frequency that is NaN.
+pub fn nan_pass(counts: &[u32], freqs: &[f64]) -> Option<usize>
+    requires { Whole counts.now (length freqs.now) }
+    ensures { result ≡ nan_pass counts.now freqs.now }
+{
+    (0..counts.len()).find(|p| nan_in(counts, freqs, *p))
+}
+
 // The samples of a gathered set, pass after pass: times in nanoseconds since 1970, frequencies in Hz. A moment may be out of range, and a
 // frequency no number.
 #[derive(Clone, Copy)]
@@ -20,22 +36,7 @@ pub struct Samples<'a> {
     ghost sizes: { Whole counts.now (length times.now) × Whole counts.now (length freqs.now) },
 }
 
-impl<'a> Samples<'a> {
-    // Whether a frequency of pass p is NaN.
-    fn nan_in(&self, p: usize) -> bool
-        requires { p < length self.now.counts.now }
-        ensures { result ≡ any_nan (pass_of self.now.counts.now p self.now.freqs.now) }
-    {
-        arguments::any_nan(pass_of(self.counts, self.freqs, p))
-    }
-
-    // The first pass with a frequency that is NaN.
-    pub fn nan_pass(&self) -> Option<usize>
-        ensures { result ≡ nan_pass self.now.counts.now self.now.freqs.now }
-    {
-        (0..self.counts.len()).find(|p| self.nan_in(*p))
-    }
-
+impl Samples<'_> {
     // Whether pass p has samples and pass q the same ones.
     fn is_alike(&self, p: usize, q: usize) -> bool
         requires { (p < length self.now.counts.now) × (q < length self.now.counts.now) }

@@ -1,4 +1,4 @@
-// The report's text: each function puts its lines into a lent buffer from a place on, as far as there is room, and answers the place behind.
+// The report's text: each function puts its lines behind what a text holds, as far as there is room.
 #![tactic(auto)]
 
 pub mod fitted;
