@@ -15,7 +15,7 @@ use Rattle.frame.specs.Rotation.{turn_at}
 use Rattle.orbit.specs.declared.Elements.{Elements}
 use Rattle.orbit.specs.declared.doppler.Station.{Station}
 use Rattle.orbit.specs.declared.doppler.Sight.{Sight}
-use Rattle.orbit.specs.Orbit.{propagated_of}
+use Rattle.orbit.specs.Orbit.{rates_of, propagated_of}
 use Rattle.orbit.specs.Doppler.{epoch_count}
 use Rattle.orbit.proofs.Hoisted.{propagated_at}
 use Rattle.approach.specs.declared.Closest.{Closest}
@@ -25,11 +25,11 @@ use Rattle.approach.specs.Turns.{reach, Around, Beside, Held, Window}
 
 -- ---- one moment
 
-module _ (v : Sight) (secs nanos : ℕ) (s : Closest) (turn : SinCos) (tau : Float) (st : State) (d : Float)
+module _ (v : Sight) (secs nanos : ℕ) (s : Closest) (turn : SinCos) (tau : Float) (st : State) (d : Float) (own : v.k ≡ rates_of v.e)
     (h : turn ≡ turn_at secs nanos) (g : tau ≡ tau_of (nanos_of secs nanos) (epoch_count v.station)) (p : st ≡ propagated_of v.e v.k tau turn) (q : d ≡ square_of st v.station.rec_ecef) where
   square_is : d ≡ square_at v.station v.e secs nanos
   unfolding square_at
-  square_is = rw (← g, ← h) (q ∙ ap (λ (x : State). square_of x v.station.rec_ecef) (propagated_at v.e v.k tau turn st v.rates p))
+  square_is = rw (← g, ← h) (q ∙ ap (λ (x : State). square_of x v.station.rec_ecef) (propagated_at v.e v.k tau turn st own p))
 
   pub closer_taken : lt d s.dist ≡ true → ◌≡◌ {A = Closest} (record { dist = d; secs = secs }) (closer_of v.station v.e nanos secs s)
   unfolding closer_of

@@ -7,6 +7,7 @@ pub mod turns;
 
 ghost use Rattle.std.specs.Prelude.{◌≡◌, MatchResult, Some};
 ghost use Rattle.moment.specs.Range.{Within};
+ghost use Rattle.orbit.specs.Doppler.{sight_of};
 ghost use Rattle.approach.specs.Answers.{set_refusal_of, Accepts, FindsPcas, compute_rss_of, compute_gradient_of};
 
 use frame::Vec3;
@@ -48,10 +49,11 @@ pub struct Stage {
     pub n: u64,
 }
 
-// An orbit seen from a station whose epoch passed refusal 4.
+// An orbit seen from a station whose epoch passed refusal 4, with its own rates and potential.
 #[derive(Clone, Copy)]
 pub struct View {
     pub sight: Sight,
+    ghost seen: { sight ≡ sight_of sight.station sight.e },
     ghost dated: { Within 0 sight.station.epoch.secs sight.station.epoch.nanos },
 }
 

@@ -8,8 +8,7 @@ use Rattle.moment.specs.Time.{moved_of, over_of, tau_of, million_bits}
 use Rattle.float.specs.Ops.{◌⊗◌, bits}
 use Rattle.frame.specs.declared.State.{State}
 use Rattle.orbit.specs.Orbit.{propagated_of}
-use Rattle.orbit.specs.Doppler.{adjusted_of, drift_of, received_of, epoch_count}
-use Rattle.orbit.specs.Hoisted.{predicted_at}
+use Rattle.orbit.specs.Doppler.{adjusted_of, drift_of, received_of, epoch_count, predicted_at}
 use Rattle.orbit.specs.declared.doppler.Sight.{Sight}
 use Rattle.std.proofs.Common.{Ok, Err}
 use Rattle.refusal.specs.declared.Refusal.TheVariants.{FarMoment}

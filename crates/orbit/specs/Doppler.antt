@@ -1,5 +1,5 @@
 -- The received frequency, in the Rust's order.
-use Rattle.std.specs.Prelude.{ℕ, cond, not, ◌&&◌, [], ◌∷◌, Float, Option, Result, Ok, Err}
+use Rattle.std.specs.Prelude.{◌≡◌, ℕ, cond, not, ◌&&◌, [], ◌∷◌, Float, Option, Result, Ok, Err}
 use Rattle.std.specs.Float.Ieee.{neg, lt, to_signed}
 use Rattle.std.specs.Float.{nan}
 use Rattle.float.specs.Constant.{decimal}
@@ -14,10 +14,11 @@ use Rattle.moment.specs.Range.{taken, moment_count}
 use Rattle.moment.specs.declared.Moment.{Moment}
 use Rattle.frame.specs.declared.State.{State}
 use Rattle.frame.specs.declared.Vec3.{Vec3}
-use Rattle.orbit.specs.Orbit.{mu, ecef_at, turn_of}
+use Rattle.orbit.specs.Orbit.{mu, rates_of, propagated_of, ecef_at, hoisted, turn_of}
 use Rattle.orbit.specs.declared.Elements.{Elements}
 use Rattle.orbit.specs.declared.doppler.DfPoly.{DfPoly}
 use Rattle.orbit.specs.declared.doppler.Station.{Station}
+use Rattle.orbit.specs.declared.doppler.Sight.{Sight}
 
 unfoldable pub dot_of : (ax ay az bx by bz : Float) → Float
 dot_of ax ay az bx by bz = ax ⊗ bx ⊕ ay ⊗ by ⊕ az ⊗ bz
@@ -59,8 +60,21 @@ adjusted_of t dt = moved_of t 1000 (to_signed 63 (dt ⊗ million))
 abbrev pub corrected_of : ℕ → State → ℕ
 corrected_of t s = moved_of t 1 (to_signed 63 (drift_of s))
 
+-- what is worked out before: an orbit's rates, and the potential at the receiver
+unfoldable pub sight_of : Station → Elements → Sight
+sight_of g e = record { station = g; e = e; k = rates_of e; u_rec = potential_of g.rec_ecef.x g.rec_ecef.y g.rec_ecef.z }
+
 abbrev pub epoch_count : Station → ℕ
 epoch_count g = nanos_of g.epoch.secs g.epoch.nanos
+
+-- a prediction from what is worked out before, and from the rotation at t_obs
+unfoldable pub predicted_at : (v : Sight) (t : ℕ) (turn : SinCos) (dt near bias : Float) → Result Float Refusal
+predicted_at v t turn dt near bias =
+    let g = v.station in
+    let tAdj = adjusted_of t dt in
+    let tCorr = corrected_of tAdj (propagated_of v.e v.k (tau_of tAdj (epoch_count g)) turn) in
+    answer (far_moments tAdj tCorr)
+    (received_of (propagated_of v.e v.k (tau_of tCorr (epoch_count g)) turn) g.rec_ecef v.u_rec near bias g.center_freq)
 
 -- The Rust's text, over counts of nanoseconds, with the rotation at t_obs; `near` is added to the centre within a metre
 unfoldable pub predicted_of : (g : Station) (e : Elements) (t : ℕ) (turn : SinCos) (dt near bias : Float) → Result Float Refusal
@@ -70,6 +84,15 @@ predicted_of g e t turn dt near bias =
     let tCorr = corrected_of tAdj (ecef_at e.a e.i e.raan0 e.u0 (tau_of tAdj (epoch_count g)) turn) in
     answer (far_moments tAdj tCorr)
     (received_of (ecef_at e.a e.i e.raan0 e.u0 (tau_of tCorr (epoch_count g)) turn) p (potential_of p.x p.y p.z) near bias g.center_freq)
+
+-- what is worked out before is the Rust's
+pub predicted_hoisted : (g : Station) (e : Elements) (t : ℕ) (turn : SinCos) (dt near bias : Float) → predicted_at (sight_of g e) t turn dt near bias ≡ predicted_of g e t turn dt near bias
+unfolding sight_of predicted_at predicted_of
+predicted_hoisted g e t turn dt near bias = simp hoisted
+
+-- and so over any sight with its own rates and potential
+pub predicted_seen : (v : Sight) (t : ℕ) (turn : SinCos) (dt near bias : Float) → v ≡ sight_of v.station v.e → predicted_at v t turn dt near bias ≡ predicted_of v.station v.e t turn dt near bias
+predicted_seen v t turn dt near bias h = rw (← h) at (predicted_hoisted v.station v.e t turn dt near bias)
 
 -- a station as a caller gives it
 abbrev pub station_at : Moment → Float → Vec3 → Station

@@ -3,8 +3,7 @@ ghost use Rattle.std.specs.Prelude.{◌≡◌, ◌<◌, ◌≤◌};
 ghost use Rattle.moment.specs.Time.{nanos_of, Sound};
 ghost use Rattle.moment.specs.Range.{Within};
 ghost use Rattle.frame.specs.Rotation.{turn_at};
-ghost use Rattle.orbit.specs.Orbit.{rates_of};
-ghost use Rattle.orbit.specs.Doppler.{dot_of, potential_of, received_of, drift_of, predicted_of, bias_of, predict_frequency_of, predict_frequency_poly_of};
+ghost use Rattle.orbit.specs.Doppler.{dot_of, potential_of, received_of, drift_of, sight_of, predicted_at, predicted_of, bias_of, predict_frequency_of, predict_frequency_poly_of};
 
 use crate::{Elements, MU, Rates};
 use float::trig::SinCos;
@@ -36,8 +35,6 @@ pub struct Sight {
     pub e: Elements,
     pub k: Rates,
     pub u_rec: f64,
-    ghost rates: { k ≡ rates_of e },
-    ghost potential: { u_rec ≡ potential_of station.rec_ecef.x station.rec_ecef.y station.rec_ecef.z },
 }
 
 pub fn dot(ax: f64, ay: f64, az: f64, bx: f64, by: f64, bz: f64) -> f64
@@ -87,7 +84,7 @@ pub fn received(s: State, rec: Vec3, u_rec: f64, near: f64, bias: f64, center_fr
 }
 
 pub fn sight_of(g: Station, e: Elements) -> Sight
-    ensures { (result.station ≡ g) × (result.e ≡ e) }
+    ensures { result ≡ sight_of g e }
 {
     let k = crate::rates_of(e);
     let u_rec = potential(g.rec_ecef);
@@ -109,7 +106,7 @@ pub fn predict(
     bias: f64,
 ) -> Result<f64, Refusal>
     requires { Sound v.station.epoch.secs v.station.epoch.nanos × Sound t_obs.secs t_obs.nanos }
-    ensures { result ≡ predicted_of v.station v.e (nanos_of t_obs.secs t_obs.nanos) turn dt near bias }
+    ensures { result ≡ predicted_at v (nanos_of t_obs.secs t_obs.nanos) turn dt near bias }
 {
     let epoch = v.station.epoch;
     let t_adj = moment::time::moved::<MICROSECOND>(t_obs, dt * 1000000.0);

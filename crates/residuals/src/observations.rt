@@ -2,6 +2,7 @@
 
 ghost use Rattle.std.specs.Prelude.{◌≡◌, ◌+◌, ◌*◌, ◌<◌, ◌≤◌, length, get_or};
 ghost use Rattle.moment.specs.Time.{Sound};
+ghost use Rattle.orbit.specs.Doppler.{sight_of};
 ghost use Rattle.residuals.specs.Samples.{passes_of, rotation_at, Samples};
 ghost use Rattle.residuals.specs.Residuals.{prediction_of, rows_of};
 
@@ -44,7 +45,7 @@ impl Observations<'_> {
         k: usize,
     ) -> Result<f64, Refusal>
         requires { Sound v.station.epoch.secs v.station.epoch.nanos
-            × (first < length self.now.times.now) × (k < length self.now.times.now) }
+            × (first < length self.now.times.now) × (k < length self.now.times.now) × (v ≡ sight_of v.station v.e) }
         ensures { result ≡ prediction_of v.station self.now.times.now v.e dt b first k }
     {
         let t = instant(self.times[k]);

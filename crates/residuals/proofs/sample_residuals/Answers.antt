@@ -5,7 +5,7 @@ use mathlib.Core.Option.{some}
 use Prim.Native.Nat.{ℕ}
 use native.Mathlib.Omega.{arith}
 use lib.ListN.{length, take, length-set}
-use Rattle.orbit.proofs.Hoisted.{sight_sound}
+use Rattle.orbit.proofs.Hoisted.{sight_kept, sight_own, sight_sound}
 use Rattle.residuals.proofs.Samples.{seen_prediction}
 use Rattle.residuals.proofs.Laws.{then_nil, total_next, total_end, residual_is, residual_far, only_far, far_filled, all_filled, into_pass, next_sample, too_far, past_pass, past_passes}
 use Rattle.residuals.proofs.sample_residuals.Goals as goal
@@ -39,9 +39,10 @@ loop-j-init g c =
 
 pub shift-requires : goal.shift-requires
 shift-requires g c = (
-  sight_sound _ _ c.sight_of-sight.ensures.0 c.args.obs.now.held.epoch,
+  sight_sound _ _ c.sight_of-sight.ensures c.args.obs.now.held.epoch,
   omega (arith, c.loop-j.invariant.from, c.loop-j.invariant.inside, c.loop-j-test.true),
   omega (arith, c.loop-j.invariant.inside, c.loop-j-test.true),
+  sight_own _ _ c.sight_of-sight.ensures,
 )
 
 pub loop-j-preserved : goal.loop-j-preserved
@@ -59,7 +60,7 @@ loop-j-preserved g c =
       whole =
           next_sample _ _ c.loop-j.out _ _ c.loop-j.j _ _ _ c.loop-j-test.true
           (omega (arith, c.loop-j.invariant.inside, c.loop-j.invariant.room, c.loop-j-test.true))
-          (residual_is _ _ _ _ _ _ _ _ _ _ _ c.elements_of.ensures c.dt-dt.ensures c.bias-b.ensures (seen_prediction _ _ _ _ _ _ _ _ c.sight_of-sight.ensures c.shift.ensures) _ c.in-Ok.is)
+          (residual_is _ _ _ _ _ _ _ _ _ _ _ c.elements_of.ensures c.dt-dt.ensures c.bias-b.ensures (seen_prediction _ _ _ _ _ _ _ _ (sight_kept _ _ c.sight_of-sight.ensures) c.shift.ensures) _ c.in-Ok.is)
           c.loop-j.invariant.whole;
     }
 
@@ -81,7 +82,7 @@ returns-after-passes g c =
 
 pub returns-in-Err : goal.returns-in-Err
 returns-in-Err g c =
-    let pred = seen_prediction _ _ _ _ _ _ _ _ c.sight_of-sight.ensures c.shift.ensures in
+    let pred = seen_prediction _ _ _ _ _ _ _ _ (sight_kept _ _ c.sight_of-sight.ensures) c.shift.ensures in
     far_filled (too_far _ _ (take c.loop-j.j c.loop-j.out) _ _ c.loop-j.j _ _ c.loop-j-test.true
     (residual_far _ _ _ _ _ _ _ _ _ _ _ c.elements_of.ensures c.dt-dt.ensures c.bias-b.ensures pred _ c.in-Err.is)
     c.loop-j.invariant.whole)
