@@ -25,6 +25,12 @@ some {counts} {freqs = freqs} {p = p} s h e =
     rw (e, pass_length counts p freqs h whole) (s.each p h)
 
 -- where it ends
+pub fits_times : {counts : List ℕ} {times : List ℤ} {freqs : List Float} {p k : ℕ} → SampledPasses counts times freqs → AtPass counts p k → p < length counts → k + count_of counts p ≤ length times
+fits_times s a h = omega (arith, pass_fits h a, s.sizes.whole)
+
+pub fits_freqs : {counts : List ℕ} {times : List ℤ} {freqs : List Float} {p k : ℕ} → SampledPasses counts times freqs → AtPass counts p k → p < length counts → k + count_of counts p ≤ length freqs
+fits_freqs s a h = omega (arith, fits_times s a h, s.sizes.pairs)
+
 pub small : {counts : List ℕ} {times : List ℤ} {freqs : List Float} {p k : ℕ} → SampledPasses counts times freqs → AtPass counts p k → p < length counts → k + count_of counts p ≤ 4096
 small s a h = omega (arith, pass_fits h a, s.sizes.whole, s.sizes.small)
 

@@ -3,7 +3,7 @@
 
 ghost use Rattle.std.specs.Prelude.{◌≡◌, ◌<◌, length, replicate};
 ghost use Rattle.moment.specs.Range.{Within};
-ghost use Rattle.pass_set.specs.PassSet.{AtPass};
+ghost use Rattle.pass_set.specs.PassSet.{pass_of, AtPass};
 ghost use Rattle.approach.specs.Sums.{dt_of};
 ghost use Rattle.start.specs.Start.{
   SampledPasses,
@@ -24,6 +24,15 @@ use orbit::Elements;
 use orbit::doppler::Station;
 use pass_set::{Pass, PassSet};
 use residuals::PARAMS;
+
+// Passes with a sample in each, as a fit keeps them: a set that passed refusals 4 and 5, without its centres.
+#[derive(Clone, Copy)]
+pub struct NonEmptyPasses<'a> {
+    pub counts: &'a [u32],
+    pub times: &'a [i64],
+    pub freqs: &'a [f64],
+    ghost sampled: { SampledPasses counts.now times.now freqs.now },
+}
 
 // The non-empty passes of a fit, a sample in each, and the station that received them: the first sample's moment as epoch, and one
 // centre for all passes.
@@ -102,56 +111,100 @@ fn dt_of(pass: &Pass, v: View) -> f64
     moment::time::tau_millis(pred, obs)
 }
 
-impl Recording<'_> {
-    // The observed closest moment of pass p, whose samples begin at k.
-    fn obs_of(&self, p: usize, k: usize) -> Instant
-        requires { AtPass self.now.set.counts.now p k × (p < length self.now.set.counts.now) }
-        ensures { (result ≡ obs_of self.now.set.counts.now self.now.set.times.now self.now.set.freqs.now self.now.station.center_freq p) × Within 0 result.secs result.nanos }
+impl<'a> NonEmptyPasses<'a> {
+    // Pass p, whose samples begin at k.
+    fn pass(&self, p: usize, k: usize) -> Pass<'a>
+        requires { AtPass self.now.counts.now p k × (p < length self.now.counts.now) }
+        ensures times { result.times.now ≡ pass_of self.now.counts.now p self.now.times.now }
+        ensures freqs { result.freqs.now ≡ pass_of self.now.counts.now p self.now.freqs.now }
     {
-        approach::pca::obs_pca_time(&self.set.pass(p, k), self.station.center_freq)
+        let end = k + self.counts[p] as usize;
+        Pass {
+            times: &self.times[k..end],
+            freqs: &self.freqs[k..end],
+        }
+    }
+
+    // The observed closest moment of pass p, whose samples begin at k.
+    fn obs_of(&self, center: f64, p: usize, k: usize) -> Instant
+        requires { AtPass self.now.counts.now p k × (p < length self.now.counts.now) }
+        ensures { (result ≡ obs_of self.now.counts.now self.now.times.now self.now.freqs.now center p) × Within 0 result.secs result.nanos }
+    {
+        approach::pca::obs_pca_time(&self.pass(p, k), center)
     }
 
     // Each later pass against the first.
-    fn observed_periods(&self) -> Periods
-        requires { 0 < length self.now.set.counts.now }
-        ensures { result ≡ periods_of self.now.set.counts.now self.now.set.times.now self.now.set.freqs.now self.now.station.center_freq }
+    fn observed_periods(&self, center: f64) -> Periods
+        requires { 0 < length self.now.counts.now }
+        ensures { result ≡ periods_of self.now.counts.now self.now.times.now self.now.freqs.now center }
     {
-        let t0 = self.obs_of(0, 0);
+        let t0 = self.obs_of(center, 0, 0);
         let mut s = Periods {
             sum: 0.0,
             count: 0.0,
         };
-        let mut k = self.set.counts[0] as usize;
-        for p in 1..self.set.counts.len() {
-            let t = self.obs_of(p, k);
+        let mut k = self.counts[0] as usize;
+        for p in 1..self.counts.len() {
+            let t = self.obs_of(center, p, k);
             s = add_period(s, moment::time::tau_millis(t, t0));
-            k += self.set.counts[p] as usize;
+            k += self.counts[p] as usize;
         }
         s
     }
 
     // The orbit's radius from the times between the passes.
     #[tactic(auto, unfolding(crate::specs::Start::radius_estimate))]
-    pub fn radius_estimate(&self) -> f64
-        requires { 0 < length self.now.set.counts.now }
-        ensures { result ≡ radius_estimate self.now.set.counts.now self.now.set.times.now self.now.set.freqs.now self.now.station.center_freq }
+    pub fn radius_estimate(&self, center: f64) -> f64
+        requires { 0 < length self.now.counts.now }
+        ensures { result ≡ radius_estimate self.now.counts.now self.now.times.now self.now.freqs.now center }
     {
-        radius(mean_period(self.observed_periods()))
+        radius(mean_period(self.observed_periods(center)))
     }
 
     // The first set of a refinement: the orbit, each pass's dt, and no other bias.
-    pub fn starting_set<const SECOND: bool>(&self, e: Elements) -> [f64; PARAMS]
-        ensures { result ≡ starting_set self.now.set.counts.now self.now.set.times.now self.now.set.freqs.now self.now.station e SECOND }
+    pub fn starting_set<const SECOND: bool>(&self, g: Station, e: Elements) -> [f64; PARAMS]
+        requires { Within 0 g.epoch.secs g.epoch.nanos }
+        ensures { result ≡ starting_set self.now.counts.now self.now.times.now self.now.freqs.now g e SECOND }
     {
-        let v = approach::seen(self.station, e);
+        let v = approach::seen(g, e);
         let mut x = with_elements(e);
         let mut k = 0usize;
-        for (p, &count) in self.set.counts.iter().enumerate() {
-            let dt = dt_of(&self.set.pass(p, k), v);
+        for (p, &count) in self.counts.iter().enumerate() {
+            let dt = dt_of(&self.pass(p, k), v);
             let at = residuals::place_of::<SECOND>(p);
             x[at] = dt;
             k += count as usize;
         }
         x
+    }
+}
+
+impl<'a> Recording<'a> {
+    // Its passes without their centres.
+    fn passes(&self) -> NonEmptyPasses<'a>
+        ensures counts { result.counts.now ≡ self.now.set.counts.now }
+        ensures times { result.times.now ≡ self.now.set.times.now }
+        ensures freqs { result.freqs.now ≡ self.now.set.freqs.now }
+    {
+        NonEmptyPasses {
+            counts: self.set.counts,
+            times: self.set.times,
+            freqs: self.set.freqs,
+        }
+    }
+
+    // The orbit's radius, by its station's centre.
+    pub fn radius_estimate(&self) -> f64
+        requires { 0 < length self.now.set.counts.now }
+        ensures { result ≡ radius_estimate self.now.set.counts.now self.now.set.times.now self.now.set.freqs.now self.now.station.center_freq }
+    {
+        self.passes().radius_estimate(self.station.center_freq)
+    }
+
+    // The first set of a refinement, seen from its station.
+    pub fn starting_set<const SECOND: bool>(&self, e: Elements) -> [f64; PARAMS]
+        ensures { result ≡ starting_set self.now.set.counts.now self.now.set.times.now self.now.set.freqs.now self.now.station e SECOND }
+    {
+        self.passes().starting_set::<SECOND>(self.station, e)
     }
 }

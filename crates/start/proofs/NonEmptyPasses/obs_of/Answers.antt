@@ -1,6 +1,6 @@
 -- `obs_of` meets its contract. Assumes nothing.
 use Rattle.start.proofs.Passes.{some, pass_obs}
-use Rattle.start.proofs.Recording.obs_of.Goals as goal
+use Rattle.start.proofs.NonEmptyPasses.obs_of.Goals as goal
 
 pub obs_pca_time-requires : goal.obs_pca_time-requires
 obs_pca_time-requires c = some c.args.self.now.sampled c.requires.1 c.pass.ensures.freqs

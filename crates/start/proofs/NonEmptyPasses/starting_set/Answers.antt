@@ -4,7 +4,7 @@ use Rattle.loops.proofs.Laws.{begins, again, ends}
 use Rattle.pass_set.proofs.Laws.{first_pass, next_pass}
 use Rattle.start.specs.Start.{starting_set}
 use Rattle.start.proofs.Passes.{small, some, pass_dt_is, put_is}
-use Rattle.start.proofs.Recording.starting_set.Goals as goal
+use Rattle.start.proofs.NonEmptyPasses.starting_set.Goals as goal
 
 pub loop-p-init : goal.loop-p-init
 unfolding starting_set

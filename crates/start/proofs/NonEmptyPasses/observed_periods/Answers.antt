@@ -5,7 +5,7 @@ use Rattle.loops.proofs.Laws.{begins, again, ends}
 use Rattle.pass_set.proofs.Laws.{first_pass, next_pass}
 use Rattle.start.specs.Start.{periods_of}
 use Rattle.start.proofs.Passes.{small, second_pass, period_is}
-use Rattle.start.proofs.Recording.observed_periods.Goals as goal
+use Rattle.start.proofs.NonEmptyPasses.observed_periods.Goals as goal
 
 pub obs_of-t0-requires : goal.obs_of-t0-requires
 obs_of-t0-requires c = (first_pass _, c.requires)
