@@ -26,8 +26,8 @@ either n false a b p q = q
 part : (i j : ℕ) (l : List ℕ) → length (take i (drop j l)) ≤ length l
 part i j l = omega (arith, length-take i (drop j l), min-le_right i (length (drop j l)), length-drop j l)
 
-name_length : (file : List ℕ) (n : Span) → length (File.name_of file n) ≤ length file
-unfolding File.name_of
+name_length : (file : List ℕ) (n : Span) → length (File.name_at file n) ≤ length file
+unfolding File.name_at
 name_length file n =
     either (length file) (ltb (length file) n.end) _ _ (omega arith)
     (either (length file) (ltb n.end n.start) _ _ (omega arith) (part (n.end - n.start) n.start file))

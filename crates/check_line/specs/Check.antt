@@ -12,7 +12,7 @@ use Rattle.refusal.specs.Refusals.{number_of}
 
 -- a name that was not seen prints as UNKNOWN
 abbrev pub part_shown : List ℕ → Option Span → List ℕ
-part_shown file (Some n) = File.name_of file n
+part_shown file (Some n) = File.name_at file n
 part_shown file None = bytes "UNKNOWN"
 
 abbrev pub name_shown : List ℕ → PassFile → List ℕ

@@ -15,7 +15,7 @@ fn name(pass: &[u8], r: PassFile, text: &mut Text<'_>)
     ensures { Puts (name_shown pass.now r) text.old text.new }
 {
     match r.name {
-        Some(part) => text.put(file::name(pass, part)),
+        Some(part) => text.put(file::name_at(pass, part)),
         None => text.put(b"UNKNOWN"),
     }
 }

@@ -3,7 +3,7 @@ use Rattle.std.proofs.Common.{◌≡◌, ℕ, ◌≤◌, true, false, List, ◌+
 use Rattle.std.proofs.lemmas.List.{take_min}
 use native.Mathlib.Nat.{min-le_left, min-le_right}
 use lib.Seq.{take-append_seam}
-use Rattle.passes.specs.File.{name_of}
+use Rattle.passes.specs.File.{name_at}
 use Rattle.passes.specs.declared.pieces.Span.{Span}
 use Rattle.passes.specs.declared.file.PassFile.{PassFile}
 use Rattle.command.specs.Gather.{First, no_later, is_new, Keeps}
@@ -32,7 +32,7 @@ module _ (name : Name) (file : List ℕ) (r : PassFile) (key : ℕ) (out : List 
     unfolding is_new
     kept_name e = record { since = rw (g, e) refl; is = rw (g, e) refl; room = λ h. h }
 
-    pub new_name : (out' : List ℕ) {from : List ℕ} {m : ℕ} → no_later name.key key ≡ false → from ≡ name_of file n
+    pub new_name : (out' : List ℕ) {from : List ℕ} {m : ℕ} → no_later name.key key ≡ false → from ≡ name_at file n
         → First m out' (take (length out) from) → Keeps name file r key out out' (record { size = m; key = Some key })
     unfolding is_new
     new_name out' e f h = record { since = rw (g, e) refl; is = h.is ∙ rw (g, e, f) refl; room = λ _. h.room }

@@ -18,7 +18,7 @@ use Rattle.passes.specs.File.{opening}
 use Rattle.passes.specs.File as File
 use Rattle.passes.specs.declared.file.PassFile.{PassFile}
 use Rattle.passes.proofs.Files.{never_both, same_ok}
-use Rattle.command.specs.Gather.{accepted_or, said, count_in, center_in, times_in, freqs_in, key_in, has_name, part_in, namer, name_from, key_from, unknown, arrays, Arrays, First, Holds, set_answer, gather_answer, Adds, no_later, is_new, Keeps, Opens, Extends, Gathers, Continues}
+use Rattle.command.specs.Gather.{accepted_or, said, count_in, center_in, times_in, freqs_in, key_in, has_name, namer, name_from, key_from, unknown, arrays, Arrays, First, Holds, set_answer, gather_answer, Adds, no_later, is_new, Keeps, Opens, Extends, Gathers, Continues}
 use Rattle.command.specs.declared.gather.Name.{Name}
 use Rattle.command.specs.declared.gather.Gathered.{Gathered}
 use Rattle.command.proofs.Gathers.{given}
@@ -138,7 +138,7 @@ module _ (file : List ℕ) (g : Gathered) (counts counts' : List ℕ) (times tim
             named = record {
               room = k.room a.named.room;
               is = k.is
-                  ∙ cond_said (new_said g.name a.since read since) (ap (λ (r : PassFile). take (length name) (part_in file r.name)) read) a.named.is
+                  ∙ cond_said (new_said g.name a.since read since) (ap (λ (r : PassFile). take (length name) (File.name_of file r)) read) a.named.is
                   ∙ from_more files file (λ o. take (length name) (name_from o))
                   ∙ ap (λ (m : ℕ). take m (name_from (namer (files ++ file ∷ [])))) (sym ln);
             };

@@ -13,7 +13,6 @@ use Rattle.ordering.specs.Order.{first_key}
 use Rattle.passes.specs.Text.{lines}
 use Rattle.passes.specs.File.{opening, scanned, times_of, freqs_of, name_of}
 use Rattle.passes.specs.File as File
-use Rattle.passes.specs.declared.pieces.Span.{Span}
 use Rattle.passes.specs.declared.file.PassFile.{PassFile}
 use Rattle.command.specs.declared.gather.Name.{Name}
 use Rattle.command.specs.declared.gather.Gathered.{Gathered}
@@ -41,16 +40,11 @@ times_in file = times_of (lines 0 file)
 abbrev pub freqs_in : List ℕ → List Float
 freqs_in file = freqs_of (lines 0 file)
 
--- a part of a file, empty where there is none
-abbrev pub part_in : List ℕ → Maybe Span → List ℕ
-part_in file None = []
-part_in file (Some n) = name_of file n
-
 abbrev pub has_name : List ℕ → Bool
 has_name file = is_there (said file).name
 
 abbrev pub name_in : List ℕ → List ℕ
-name_in file = part_in file (said file).name
+name_in file = name_of file (said file)
 
 -- where it belongs in the order of time: by its first sample
 abbrev pub key_in : List ℕ → ℕ
@@ -156,7 +150,7 @@ is_new name r key = is_there r.name && not (no_later name.key key)
 -- then it is taken, as far as there is room; else the name stays
 pub record Keeps (name : Name) (file : List ℕ) (r : PassFile) (key : ℕ) (bytes bytes' : List ℕ) (n : Name) : Type 0 where
   pub since : n.key ≡ cond (is_new name r key) (Some key) name.key
-  pub is : take n.size bytes' ≡ cond (is_new name r key) (take (length bytes) (part_in file r.name)) (take name.size bytes)
+  pub is : take n.size bytes' ≡ cond (is_new name r key) (take (length bytes) (name_of file r)) (take name.size bytes)
   pub room : name.size ≤ length bytes → n.size ≤ length bytes'
 
 -- ---- one file more

@@ -86,7 +86,7 @@ fn keep_name(name: Name, file: &[u8], r: PassFile, key: u64, out: &mut [u8]) -> 
     if stays(name.key, key) {
         return name;
     }
-    let size = put(file::name(file, part), out);
+    let size = put(file::name_at(file, part), out);
     Name {
         size,
         key: Some(key),

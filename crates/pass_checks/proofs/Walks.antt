@@ -14,7 +14,7 @@ use Rattle.std.specs.Prelude.{Some, None, Result, Ok, Err}
 use Rattle.std.specs.List.{find, range_with_len}
 use Rattle.std.specs.Cmp.Lexicographic.{pointwise}
 use Rattle.pass_set.specs.PassSet.{count_of, pass_of}
-use Rattle.passes.specs.File.{answer, name_of}
+use Rattle.passes.specs.File.{answer, name_at}
 use Rattle.passes.specs.declared.pieces.Span.{Span}
 use Rattle.passes.specs.declared.file.PassFile.{PassFile}
 use Rattle.refusal.specs.declared.Refusal.{Refusal}
@@ -72,7 +72,7 @@ module _ (name file : List ℕ) {r : Result PassFile Refusal} (e : r ≡ answer 
     unfolding other_name
     no_name h = sym (ap (part_other name file) h) ∙ ap (named_other name file) (sym g ∙ e)
 
-    pub another : {n : Span} {m : List ℕ} {b : Bool} → q.name ≡ Some n → m ≡ name_of file n → b ≡ same eqb name m → not b ≡ other_name name file
+    pub another : {n : Span} {m : List ℕ} {b : Bool} → q.name ≡ Some n → m ≡ name_at file n → b ≡ same eqb name m → not b ≡ other_name name file
     unfolding other_name
     another h k i = ap not (i ∙ ap (same eqb name) k) ∙ sym (ap (part_other name file) h) ∙ ap (named_other name file) (sym g ∙ e)
 

@@ -4,7 +4,7 @@ use Rattle.std.specs.Int.Signed.{lt_z}
 use Rattle.std.specs.Float.Ieee.{eq}
 use Rattle.pass_set.specs.PassSet.{total, count_of, pass_of}
 use Rattle.arguments.specs.Refusals.{any_nan}
-use Rattle.passes.specs.File.{answer, name_of}
+use Rattle.passes.specs.File.{answer, name_at}
 use Rattle.passes.specs.declared.file.PassFile.{PassFile}
 use Rattle.passes.specs.declared.pieces.Span.{Span}
 use Rattle.refusal.specs.declared.Refusal.{Refusal}
@@ -46,7 +46,7 @@ pub record Whole (counts : List ℕ) (samples : ℕ) : Type 0 where
 
 -- a file that was read so has a name, and another than this
 abbrev pub part_other : List ℕ → List ℕ → Option Span → Bool
-part_other name file (Some n) = not (same eqb name (name_of file n))
+part_other name file (Some n) = not (same eqb name (name_at file n))
 part_other name file None = false
 
 abbrev pub named_other : List ℕ → List ℕ → Result PassFile Refusal → Bool

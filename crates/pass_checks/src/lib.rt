@@ -66,7 +66,7 @@ pub fn is_other_name(name: &[u8], file: &[u8]) -> bool
         return false;
     };
     match r.name {
-        Some(part) => name != file::name(file, part),
+        Some(part) => name != file::name_at(file, part),
         None => false,
     }
 }

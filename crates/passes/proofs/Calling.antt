@@ -21,7 +21,7 @@ use Rattle.rfc3339.specs.Rfc3339.{date_time_of}
 use Rattle.rfc3339.specs.declared.Timestamp.{Timestamp}
 use Rattle.passes.specs.Text.{Placed, push, starts_lf, lines, blank, blanks, keep_trimmed, trim_end, trim, until, ascii}
 use Rattle.passes.specs.Line.{part, inside, since1970, sample_of, pair_of, fields, sample, center_line, named, header, trimmed_line, line_of}
-use Rattle.passes.specs.File.{opening, advance, advanced, after, scanned, room_refusal, with_room, answer, name_of, Reads}
+use Rattle.passes.specs.File.{opening, advance, advanced, after, scanned, room_refusal, with_room, answer, name_at, Reads}
 use Rattle.passes.specs.Called.{value_of, headed, called_in, later, last_called, part_of}
 use Rattle.passes.specs.declared.line.Line.{Line}
 use Rattle.passes.specs.declared.line.Line.TheVariants.{Skipped, Name, Center, Sample}
@@ -239,7 +239,7 @@ placed file at (c ∷ l) f = go (eqb c 10) (eqb c 13) (starts_lf l) refl (placed
 
 module _ (file : List ℕ) where
   tells_next : (p : PassFile) (at : ℕ) (b : List ℕ) (x : Line) (n m : Option (List ℕ)) → Part file at b → Tells b (Ok x) n → part_of file p ≡ m → part_of file (advance p at x) ≡ later n m
-  unfolding name_of
+  unfolding name_at
   tells_next p at b Skipped n m q t h = subst (λ (k : Option (List ℕ)). part_of file p ≡ later k m) (sym t) h
   tells_next p at b (Name o) n m q t h =
       let v = t.0 in

@@ -33,11 +33,11 @@ unfoldable pub last_called : Option (List ℕ) → List Placed → Option (List 
 last_called n [] = n
 last_called n (l ∷ ls) = last_called (later (called_in l.bytes) n) ls
 
--- the name at a part of the file, where one was seen
-abbrev pub named_at : List ℕ → Seen Span → Option (List ℕ)
-named_at file None = none
-named_at file (Some n) = some (name_of file n)
+-- this name, where one was seen
+abbrev pub where_seen : Seen Span → List ℕ → Option (List ℕ)
+where_seen None name = none
+where_seen (Some n) name = some name
 
 -- the name part of an answer
 abbrev pub part_of : List ℕ → PassFile → Option (List ℕ)
-part_of file r = named_at file r.name
+part_of file r = where_seen r.name (name_of file r)

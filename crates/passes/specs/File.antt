@@ -79,9 +79,18 @@ with_room nt nf (Err r) = Err r
 abbrev pub answer : List ℕ → ℕ → ℕ → Result PassFile Refusal
 answer file nt nf = with_room nt nf (scanned file)
 
--- the name as a part of the file; empty where the answer is of another file
-unfoldable pub name_of : List ℕ → Span → List ℕ
-name_of file n = cond (ltb (length file) n.end) [] (cond (ltb n.end n.start) [] (take (n.end - n.start) (drop n.start file)))
+-- the bytes at a part of the file; empty where it is no part of it
+unfoldable pub name_at : List ℕ → Span → List ℕ
+name_at file n = cond (ltb (length file) n.end) [] (cond (ltb n.end n.start) [] (take (n.end - n.start) (drop n.start file)))
+
+-- empty where there is no part
+abbrev pub part_in : List ℕ → Option Span → List ℕ
+part_in file None = []
+part_in file (Some n) = name_at file n
+
+-- the name as a part of the file; empty where no name is seen, and where the answer is of another file
+abbrev pub name_of : List ℕ → PassFile → List ℕ
+name_of file r = part_in file r.name
 
 -- before a line of n bytes at a place
 pub record BeforeLine (file : List ℕ) (at n : ℕ) (s : PassFile) (times : List ℤ) (freqs : List Float) : Type 0 where

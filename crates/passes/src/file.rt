@@ -112,9 +112,19 @@ pub fn read_pass_file(
 }
 
 // The name at this part of a file: empty where that is no part of it.
-#[tactic(auto, unfolding(crate::specs::File::name_of))]
-pub fn name(file: &[u8], part: Span) -> &[u8]
-    ensures { result.now ≡ File.name_of file.now part }
+#[tactic(auto, unfolding(crate::specs::File::name_at))]
+pub fn name_at(file: &[u8], part: Span) -> &[u8]
+    ensures { result.now ≡ File.name_at file.now part }
 {
     file.get(part.start..part.end).unwrap_or(&[])
+}
+
+// The name as a part of the file that the answer is of: empty where no name is seen, and where it is no part of this file.
+pub fn name(file: &[u8], r: PassFile) -> &[u8]
+    ensures { result.now ≡ File.name_of file.now r }
+{
+    match r.name {
+        Some(part) => name_at(file, part),
+        None => &[],
+    }
 }

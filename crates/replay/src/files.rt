@@ -17,10 +17,7 @@ fn same_file(bytes: &[u8], r: PassFile, times: &[i64], freqs: &[f64], fields: &[
     if answer_lines::field(fields, 0) != r.name.is_some() as u64 {
         return false;
     }
-    let name = match r.name {
-        Some(part) => file::name(bytes, part),
-        None => b"",
-    };
+    let name = file::name(bytes, r);
     let list = answer_lines::from(fields, 1);
     if !answer_lines::same(list, name.len(), name) {
         return false;

@@ -10,4 +10,4 @@ pub returns-then-stays : goal.returns-then-stays
 returns-then-stays c = kept_name _ _ _ _ _ c.in-Some.is (sym c.stays.ensures ∙ c.if-stays.true)
 
 pub returns : goal.returns
-returns c = new_name _ _ _ _ _ c.in-Some.is _ (sym c.stays.ensures ∙ c.if-stays.false) c.name.ensures c.put-size.ensures
+returns c = new_name _ _ _ _ _ c.in-Some.is _ (sym c.stays.ensures ∙ c.if-stays.false) c.name_at.ensures c.put-size.ensures
