@@ -48,12 +48,12 @@ pub fn place(rows: usize, n: usize, r: usize, c: usize) -> usize
 
 // ---- the normal equations
 
-// A set's residuals and the table of their derivatives by its n parameters, row by row, in lent memory.
-#[derive(Drop)]
+// A set's residuals and the table of their derivatives by its n parameters, row by row.
+#[derive(Clone, Copy)]
 pub struct Table<'a> {
     pub residuals: &'a [f64],
     pub n: usize,
-    pub entries: &'a mut [f64],
+    pub entries: &'a [f64],
     ghost grid: { Grid (length residuals.now) n entries.now },
     ghost parameters: { 4 ≤ n },
 }
@@ -65,17 +65,6 @@ impl Table<'_> {
         ensures { result ≡ table_entry self.now.n self.now.entries.now row c }
     {
         self.entries[place(self.residuals.len(), self.n, row, c)]
-    }
-
-    // Writes v there.
-    pub fn put(&mut self, row: usize, c: usize, v: f64)
-        requires { (row < length self.old.residuals.now) × (c < self.old.n) }
-        ensures size { self.new.n ≡ self.old.n }
-        ensures residuals { self.new.residuals.now ≡ self.old.residuals.now }
-        ensures after { self.new.entries.now ≡ set self.old.entries.now (row * self.old.n + c) v }
-    {
-        let p = place(self.residuals.len(), self.n, row, c);
-        self.entries[p] = v;
     }
 
     fn add_products(&self, row: usize, c1: usize, jt_j: &mut [f64])
@@ -129,6 +118,29 @@ impl Table<'_> {
         for row in 0..self.residuals.len() {
             self.add_rights(row, jt_r);
         }
+    }
+}
+
+// The same in lent memory, where the derivatives are written.
+#[derive(Drop)]
+pub struct Derivatives<'a> {
+    pub residuals: &'a [f64],
+    pub n: usize,
+    pub entries: &'a mut [f64],
+    ghost grid: { Grid (length residuals.now) n entries.now },
+    ghost parameters: { 4 ≤ n },
+}
+
+impl Derivatives<'_> {
+    // Writes v as the derivative in a row by parameter c.
+    pub fn put(&mut self, row: usize, c: usize, v: f64)
+        requires { (row < length self.old.residuals.now) × (c < self.old.n) }
+        ensures size { self.new.n ≡ self.old.n }
+        ensures residuals { self.new.residuals.now ≡ self.old.residuals.now }
+        ensures after { self.new.entries.now ≡ set self.old.entries.now (row * self.old.n + c) v }
+    {
+        let p = place(self.residuals.len(), self.n, row, c);
+        self.entries[p] = v;
     }
 }
 

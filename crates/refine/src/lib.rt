@@ -10,7 +10,7 @@ ghost use Rattle.residuals.specs.Answers.{passes_in, Filled};
 ghost use Rattle.refine.specs.Jacobian.{bias_eps, eps_of, perturbed_of, put_entry, column_of};
 ghost use Rattle.refine.specs.Advance.{advance_of, cells_of, Ready, Advances};
 
-use normal::{Step, Stepped, Table};
+use normal::{Derivatives, Step, Stepped, Table};
 use refusal::Refusal;
 use residuals::observations::Observations;
 use residuals::{PARAMS, Point, ROWS};
@@ -47,7 +47,7 @@ fn perturbed(x: [f64; PARAMS], k: usize, eps: f64) -> [f64; PARAMS]
 }
 
 // Column k of the table from the residuals of the moved set.
-fn put_column(table: &mut Table, column: &[f64], eps: f64, k: usize)
+fn put_column(table: &mut Derivatives, column: &[f64], eps: f64, k: usize)
     requires { (length column.now ≡ length table.old.residuals.now) × (k < table.old.n) }
     ensures size { table.new.n ≡ table.old.n }
     ensures residuals { table.new.residuals.now ≡ table.old.residuals.now }
@@ -65,7 +65,7 @@ fn jacobian_column<const SECOND: bool>(
     p: &Point<SECOND>,
     obs: &Observations,
     k: usize,
-    table: &mut Table,
+    table: &mut Derivatives,
 ) -> Result<(), Refusal>
     requires { (length table.old.residuals.now ≡ rows_of SECOND (length obs.now.times.now) (length obs.now.counts.now))
         × (k < table.old.n) }
@@ -90,7 +90,7 @@ fn jacobian_column<const SECOND: bool>(
 fn jacobian<const SECOND: bool>(
     p: &Point<SECOND>,
     obs: &Observations,
-    table: &mut Table,
+    table: &mut Derivatives,
 ) -> Result<(), Refusal>
     requires { length table.old.residuals.now ≡ rows_of SECOND (length obs.now.times.now) (length obs.now.counts.now) }
     ensures size { table.new.n ≡ table.old.n }
@@ -121,16 +121,22 @@ pub fn advance<const SECOND: bool>(
     let params = p.params;
     let n = residuals::place_of::<SECOND>(obs.counts.len());
     let cells = r.len() * n;
-    let mut table = Table {
+    let mut derivatives = Derivatives {
         residuals: r,
         n,
         entries: &mut scratch[..cells],
     };
-    if let Err(far) = jacobian(p, obs, &mut table) {
+    if let Err(far) = jacobian(p, obs, &mut derivatives) {
         return Stepped {
             step: Step::Refused(far),
             params,
         };
     }
+    let Derivatives { entries, .. } = derivatives;
+    let table = Table {
+        residuals: r,
+        n,
+        entries,
+    };
     normal::damped_step::<SECOND>(&table, lambda, params)
 }

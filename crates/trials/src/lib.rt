@@ -238,8 +238,17 @@ pub fn far_refusal(e: Ending) -> Option<Refusal>
     ensures { result ≡ far_of e }
 {
     match e {
-        Ending::Refused(Refusal::FarMoment) => Some(Refusal::FarMoment),
-        _ => None,
+        Ending::Running => None,
+        Ending::Refused(refusal) => {
+            if refusal == Refusal::FarMoment {
+                Some(refusal)
+            } else {
+                None
+            }
+        }
+        Ending::Short => None,
+        Ending::Damped => None,
+        Ending::Converged => None,
     }
 }
 

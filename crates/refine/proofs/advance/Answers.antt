@@ -12,11 +12,11 @@ place_of-n-requires g c = c.args.obs.now.held.few
 pub overflow_mul-cells : goal.overflow_mul-cells
 overflow_mul-cells g c = omega (arith, cells_few _ _ _ _ _ _ _ _ c.args.obs.now.held c.requires c.place_of-n.ensures.0)
 
-pub slice_bounds-table-end : goal.slice_bounds-table-end
-slice_bounds-table-end g c = cells_fit _ _ _ _ _ _ _ _ c.args.obs.now.held c.requires c.place_of-n.ensures.0
+pub slice_bounds-derivatives-end : goal.slice_bounds-derivatives-end
+slice_bounds-derivatives-end g c = cells_fit _ _ _ _ _ _ _ _ c.args.obs.now.held c.requires c.place_of-n.ensures.0
 
-pub slice_bounds-table-end-2 : goal.slice_bounds-table-end-2
-slice_bounds-table-end-2 g c =
+pub slice_bounds-derivatives-end-2 : goal.slice_bounds-derivatives-end-2
+slice_bounds-derivatives-end-2 g c =
     sym (length-take-le _ _ (cells_fit _ _ _ _ _ _ _ _ c.args.obs.now.held c.requires c.place_of-n.ensures.0))
 
 pub jacobian-requires : goal.jacobian-requires
@@ -34,14 +34,22 @@ returns-in-Err g c =
       behind = behind _ _ _ _ _ _ _ _ held pre en _ c.args.scratch.now _ (search (rules, long)) refl;
     }
 
-pub invariant_of-table : goal.invariant_of-table
-invariant_of-table g c =
+pub invariant_of-derivatives : goal.invariant_of-derivatives
+invariant_of-derivatives g c =
     let pre = c.requires in
     let held = c.args.obs.now.held in
     let en = c.place_of-n.ensures.0 in
     record {
       grid = record { few = rows_few _ _ _ _ _ _ _ _ held pre en; narrow = columns_few _ _ _ _ _ _ _ _ held pre en; full = length-take-le _ _ (cells_fit _ _ _ _ _ _ _ _ held pre en) };
       parameters = columns_four _ _ _ _ _ _ _ _ held pre en;
+    }
+
+pub invariant_of-table : goal.invariant_of-table
+invariant_of-table g c =
+    let e = c.in_default.ensures in
+    record {
+      grid = rw (e.size, e.residuals) at c.jacobian.new.table.grid;
+      parameters = columns_four _ _ _ _ _ _ _ _ c.args.obs.now.held c.requires c.place_of-n.ensures.0;
     }
 
 pub returns : goal.returns
@@ -52,6 +60,6 @@ returns g c =
     let e = c.in_default.ensures in
     let long = length-take-le _ _ (cells_fit _ _ _ _ _ _ _ _ held pre en) in
     record {
-      outcome = advance_done _ _ _ _ _ _ _ _ held pre en _ _ _ long _ _ e.filled (rw (e.size, e.residuals) at c.damped_step.ensures);
+      outcome = advance_done _ _ _ _ _ _ _ _ held pre en _ _ _ long _ _ e.filled c.damped_step.ensures;
       behind = behind _ _ _ _ _ _ _ _ held pre en _ c.args.scratch.now _ (search (rules, long)) refl;
     }
