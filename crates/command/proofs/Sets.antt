@@ -1,7 +1,7 @@
 -- The set that a file more makes, from what `add_file` and `keep_name` promise; and files gathered one by one. Assumes nothing.
-use Rattle.std.proofs.Common.{◌≡◌, ℕ, zero, suc, ◌+◌, ◌-◌, ◌<◌, ◌≤◌, Bool, true, false, cond, not, ◌&&◌, List, [], ◌∷◌, ◌++◌, map, length, take, drop, ℤ, sym, refl, ap, ◌∙◌, subst, append_assoc, append-nil, zero-le, suc-add, zero-add, arith, length-append, length-take-le, drop_at, Result, Ok, Err, Some, None}
+use Rattle.std.proofs.Common.{◌≡◌, ℕ, zero, suc, ◌+◌, ◌-◌, ◌<◌, ◌≤◌, Bool, true, false, cond, not, ◌&&◌, List, [], ◌∷◌, ◌++◌, map, length, take, drop, ℤ, sym, refl, ap, ◌∙◌, subst, append_assoc, append-nil, true≢false, zero-le, suc-add, zero-add, arith, length-append, length-take-le, drop_at, Result, Ok, Err, Some, None}
 use Rattle.std.proofs.Common.{Option as Maybe}
-use Rattle.std.specs.Prelude.{is_some as is_there}
+use Rattle.std.specs.Prelude.{is_ok, is_some as is_there}
 use mathlib.Core.List.{flat_map, map-append}
 use mathlib.Core.Option.{Option, none, some}
 use lib.Dec.{leb}
@@ -18,7 +18,7 @@ use Rattle.passes.specs.File.{opening}
 use Rattle.passes.specs.File as File
 use Rattle.passes.specs.declared.file.PassFile.{PassFile}
 use Rattle.passes.proofs.Files.{never_both, same_ok}
-use Rattle.command.specs.Gather.{accepted_or, said, count_in, center_in, times_in, freqs_in, key_in, has_name, namer, name_from, key_from, unknown, arrays, Arrays, First, Holds, set_answer, gather_answer, Adds, no_later, is_new, Keeps, Opens, Extends, Gathers, Continues}
+use Rattle.command.specs.Gather.{accepted_or, said, count_in, center_in, times_in, freqs_in, key_in, has_name, namer, name_from, key_from, unknown, arrays, Arrays, First, Holds, set_answer, gather_answer, Adds, no_later, is_new, Keeps, Opens, Extends, given_set, Gathers, Continues}
 use Rattle.command.specs.declared.gather.Name.{Name}
 use Rattle.command.specs.declared.gather.Gathered.{Gathered}
 use Rattle.command.proofs.Gathers.{given}
@@ -166,47 +166,46 @@ opened name name' e h =
 
 -- ---- one file after the other
 
-none_some : {B : Type 0} {T : Type 0} {x : T} → ◌≡◌ {A = Maybe T} None (Some x) → B
-none_some e = let z : ◌≡◌ {A = ℕ} 0 1 = cc in absurd (omega arith)
-
-same_some : {T : Type 0} {x y : T} → ◌≡◌ {A = Maybe T} (Some x) (Some y) → x ≡ y
-same_some e = cc
-
 module _ (g : Gathered) (a : Arrays) where
   -- a file that failed before it was added
-  pub stops : Continues g a a None
-  stops = record { next = λ n h. record { files = h.files; set = h.set; holds = h.holds; most = omega (arith, h.most); all = λ t z. none_some z } }
+  pub stops : Continues g a a (Err g)
+  stops = record { next = λ n h. record { files = h.files; holds = h.holds; most = omega (arith, h.most); all = λ z. absurd (true≢false (sym z)) } }
 
   module _ {file : List ℕ} {a' : Arrays} {r : Result Gathered Refusal} (h : Extends file g a a' r) where
-    pub goes_on : {q : Gathered} → r ≡ Ok q → Continues g a a' (Some q)
+    pub goes_on : {q : Gathered} → r ≡ Ok q → Continues g a a' (Ok q)
     goes_on {q = q} e =
         record {
           next = λ n y. record {
             files = y.files ++ file ∷ [];
-            set = q;
-            holds = h.appended q e y.files (subst (λ (t : Gathered). Holds y.files t a) (y.all g refl).0 y.holds);
+            holds = h.appended q e y.files y.holds;
             most = omega (arith, y.most, length-append y.files (file ∷ []));
-            all = λ t z. (same_some z, omega (arith, (y.all g refl).1, length-append y.files (file ∷ [])));
+            all = λ _. omega (arith, y.all refl, length-append y.files (file ∷ []));
           };
         }
 
-    pub ends : {k : Refusal} → r ≡ Err k → Continues g a a' None
-    ends {k = k} e = subst (λ (b : Arrays). Continues g a b None) (sym (h.kept k e)) stops
+    pub ends : {k : Refusal} → r ≡ Err k → Continues g a a' (Err g)
+    ends {k = k} e = subst (λ (b : Arrays). Continues g a b (Err g)) (sym (h.kept k e)) stops
 
 -- ---- all files
 
-pub none_yet : {g : Gathered} {name : List ℕ} (counts : List ℕ) (times : List ℤ) (freqs centers : List Float) → Opens name g → Gathers 0 (Some g) (arrays counts times freqs centers name)
-none_yet {g = g} counts times freqs centers h = record { files = []; set = g; holds = h.holds counts times freqs centers; most = zero-le; all = λ t z. (same_some z, refl) }
+pub none_yet : {g : Gathered} {name : List ℕ} (counts : List ℕ) (times : List ℤ) (freqs centers : List Float) → Opens name g → Gathers 0 (Ok g) (arrays counts times freqs centers name)
+none_yet counts times freqs centers h = record { files = []; holds = h.holds counts times freqs centers; most = zero-le; all = λ _. refl }
 
-pub gathered : {n : ℕ} {r : Maybe Gathered} {g : Gathered} {a : Arrays} → r ≡ Some g → Gathers n r a → Gathers n (Some g) a
-gathered {n = n} {a = a} e y = subst (λ (o : Maybe Gathered). Gathers n o a) e y
+pub gathered : {n : ℕ} {r : Result Gathered Gathered} {g : Gathered} {a : Arrays} → r ≡ Ok g → Gathers n r a → Gathers n (Ok g) a
+gathered {n = n} {a = a} e y = subst (λ (o : Result Gathered Gathered). Gathers n o a) e y
 
-pub ended_early : {m n : ℕ} {r o : Maybe Gathered} {a : Arrays} → Gathers m r a → m ≤ n → o ≡ None → Gathers n o a
-ended_early y h e = record { files = y.files; set = y.set; holds = y.holds; most = omega (arith, h, y.most); all = λ t z. none_some (sym e ∙ z) }
+pub ended_early : {m n : ℕ} {r o : Result Gathered Gathered} {g : Gathered} {a : Arrays} → Gathers m r a → m ≤ n → r ≡ Err g → o ≡ Err g → Gathers n o a
+ended_early {a = a} y h e f =
+    record {
+      files = y.files;
+      holds = subst (λ (x : Result Gathered Gathered). Holds y.files (given_set x) a) (e ∙ sym f) y.holds;
+      most = omega (arith, h, y.most);
+      all = λ z. absurd (true≢false (sym z ∙ ap is_ok f));
+    }
 
 -- the set, where no file failed
-pub held : {n : ℕ} {r : Maybe Gathered} {g : Gathered} {a : Arrays} (y : Gathers n r a) → r ≡ Some g → Holds y.files g a
-held {g = g} {a = a} y e = subst (λ (t : Gathered). Holds y.files t a) (y.all g e).0 y.holds
+pub held : {n : ℕ} {r : Result Gathered Gathered} {g : Gathered} {a : Arrays} (y : Gathers n r a) → r ≡ Ok g → Holds y.files g a
+held {a = a} y e = subst (λ (x : Result Gathered Gathered). Holds y.files (given_set x) a) e y.holds
 
-pub all_files : {m n : ℕ} {r : Maybe Gathered} {a : Arrays} → Gathers m r a → m ≤ n → n ≤ m → Gathers n r a
-all_files y h k = record { files = y.files; set = y.set; holds = y.holds; most = omega (arith, h, y.most); all = λ t z. ((y.all t z).0, omega (arith, h, k, (y.all t z).1)) }
+pub all_files : {m n : ℕ} {r : Result Gathered Gathered} {a : Arrays} → Gathers m r a → m ≤ n → n ≤ m → Gathers n r a
+all_files y h k = record { files = y.files; holds = y.holds; most = omega (arith, h, y.most); all = λ z. omega (arith, h, k, y.all z) }

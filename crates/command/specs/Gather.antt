@@ -1,5 +1,5 @@
 -- Pass files gathered into one pass set, a pass for each file.
-use Rattle.std.specs.Prelude.{◌≡◌, ℕ, ◌+◌, ◌-◌, ◌<◌, ◌≤◌, Bool, false, cond, not, ◌&&◌, ◌||◌, List, [], ◌∷◌, ◌++◌, map, length, take, ℤ, nat_le, nat_lt, Float, Result, Ok, Err, Some, None}
+use Rattle.std.specs.Prelude.{◌≡◌, ℕ, ◌+◌, ◌-◌, ◌<◌, ◌≤◌, Bool, true, false, cond, not, ◌&&◌, ◌||◌, List, [], ◌∷◌, ◌++◌, map, length, take, ℤ, nat_le, nat_lt, Float, Result, Ok, Err, is_ok, Some, None}
 use Rattle.std.specs.Prelude.{Option as Maybe, is_some as is_there}
 use mathlib.Core.List.{flat_map}
 use Rattle.std.proofs.Math.Option.{Option, none, some}
@@ -167,14 +167,18 @@ pub record Extends (file : List ℕ) (g : Gathered) (a a' : Arrays) (r : Result 
 
 -- ---- all files, where a contract cannot say what a file holds
 
--- the arrays hold the set of n files, or, where there is none because one failed, of no more
-pub record Gathers (n : ℕ) (r : Maybe Gathered) (a : Arrays) : Type 0 where
+-- the set that is there, be it of all files or, after a failure, of those before it
+abbrev pub given_set : Result Gathered Gathered → Gathered
+given_set (Ok g) = g
+given_set (Err g) = g
+
+-- the arrays hold the set of n files, or of fewer if one failed
+pub record Gathers (n : ℕ) (r : Result Gathered Gathered) (a : Arrays) : Type 0 where
   pub files : List (List ℕ)
-  pub set : Gathered
-  pub holds : Holds files set a
+  pub holds : Holds files (given_set r) a
   pub most : length files ≤ n
-  pub all : (g : Gathered) → r ≡ Some g → (set ≡ g) × (length files ≡ n)
+  pub all : is_ok r ≡ true → length files ≡ n
 
 -- one file more, or a failure
-pub record Continues (g : Gathered) (a a' : Arrays) (r : Maybe Gathered) : Type 0 where
-  pub next : (n : ℕ) → Gathers n (Some g) a → Gathers (n + 1) r a'
+pub record Continues (g : Gathered) (a a' : Arrays) (r : Result Gathered Gathered) : Type 0 where
+  pub next : (n : ℕ) → Gathers n (Ok g) a → Gathers (n + 1) r a'

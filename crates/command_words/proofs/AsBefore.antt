@@ -16,16 +16,17 @@ use Rattle.decimal.specs.declared.read.NumberError.TheVariants.{NotANumber}
 use Rattle.geodetic.proofs.Total.{number_no_comma}
 use Rattle.command_words.specs.Words.{is_line, numbered, and_then, mast_of, request_of}
 use Rattle.command_words.specs.declared.Mast.{Mast}
+use Rattle.command_words.specs.declared.MastError.{MastError}
 use Rattle.command_words.specs.declared.Request.{Request}
 use Rattle.command_words.specs.declared.WordsError.{WordsError}
 use Rattle.command_words.specs.declared.WordsError.TheVariants.{TooFew, TooMany}
 
 -- what follows from word k, if it is a number
-abbrev if_number : {A : Type 0} → ℕ → Number → (Float → Result A WordsError) → Result A WordsError
+abbrev if_number : {A : Type 0} → ℕ → Number → (Float → Result A MastError) → Result A MastError
 if_number k n next = and_then (numbered k n) next
 
 -- of four words; the first that is no number answers
-abbrev pub mast_before : List ℕ → List ℕ → List ℕ → List ℕ → Result Mast WordsError
+abbrev pub mast_before : List ℕ → List ℕ → List ℕ → List ℕ → Result Mast MastError
 mast_before x y z i =
     if_number 1 (number x) (λ a. if_number 2 (number y) (λ b. if_number 3 (number z) (λ c. if_number 4 (number i) (λ d. Ok (record { rec_ecef = record { x = a; y = b; z = c }; initial_i = radians_of d })))))
 
@@ -33,7 +34,7 @@ mast_before x y z i =
 abbrev pub request_before : Bool → ℕ → List ℕ → List ℕ → List ℕ → List ℕ → Result Request WordsError
 request_before received n x y z i =
     cond (ltb n 6) (Err TooFew) (cond (ltb 21 n) (Err TooMany)
-    (and_then (mast_before x y z i) (λ m. Ok (record { mast = m; layout = record { received = received; first = cond received 2 1 + 4; files = n - 5 } }))))
+    (Ok (record { mast = mast_before x y z i; layout = record { received = received; first = cond received 2 1 + 4; files = n - 5 } })))
 
 -- a number is no position line
 number_no_line : (x : List ℕ) → (number x ≡ Err NotANumber → ⊥) → is_line x ≡ false

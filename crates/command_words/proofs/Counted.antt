@@ -7,9 +7,9 @@ use native.Mathlib.Omega.{arith}
 use Rattle.std.proofs.Common.{Result, Ok, Err}
 use lib.Dec.{ltb, lit≤}
 use borrow.Author.Tests.{ltb-false}
-use Rattle.command_words.specs.Words.{is_line, mast_words, and_then, mast_of, layout_of, request_of, Few}
-use Rattle.command_words.specs.declared.Layout.{Layout}
+use Rattle.command_words.specs.Words.{is_line, mast_words, mast_of, layout_of, request_of, Few}
 use Rattle.command_words.specs.declared.Mast.{Mast}
+use Rattle.command_words.specs.declared.MastError.{MastError}
 use Rattle.command_words.specs.declared.Request.{Request}
 use Rattle.command_words.specs.declared.WordsError.{WordsError}
 use Rattle.command_words.specs.declared.WordsError.TheVariants.{TooFew, TooMany}
@@ -24,13 +24,11 @@ first_at true false = lit≤ tt
 first_at false true = lit≤ tt
 first_at false false = lit≤ tt
 
-few : (received line : Bool) (m : Result Mast WordsError) (n : ℕ) (a b : Bool) → ltb (mast_words line + 17) n ≡ b
-    → FewIn (cond a (Err TooFew) (cond b (Err TooMany) (and_then m (λ m. Ok (record { mast = m; layout = layout_of received (mast_words line) (n - (mast_words line + 1)) })))))
-unfolding and_then
+few : (received line : Bool) (m : Result Mast MastError) (n : ℕ) (a b : Bool) → ltb (mast_words line + 17) n ≡ b
+    → FewIn (cond a (Err TooFew) (cond b (Err TooMany) (Ok (record { mast = m; layout = layout_of received (mast_words line) (n - (mast_words line + 1)) }))))
 few received line m n true b e = tt
 few received line m n false true e = tt
-few received line (Err k) n false false e = tt
-few received line (Ok m) n false false e = record { files = omega (arith, ltb-false (mast_words line + 17) n e); first = first_at received line }
+few received line m n false false e = record { files = omega (arith, ltb-false (mast_words line + 17) n e); first = first_at received line }
 
 pub few_files : (received : Bool) (n : ℕ) (x y z i : List ℕ) {r : Request} → request_of received n x y z i ≡ Ok r → Few r.layout
 unfolding request_of

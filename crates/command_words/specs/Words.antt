@@ -14,9 +14,11 @@ use Rattle.decimal.specs.Read.{Number, number}
 use Rattle.decimal.specs.declared.read.NumberError.TheVariants.{NotANumber, TooLong}
 use Rattle.command_words.specs.declared.Layout.{Layout}
 use Rattle.command_words.specs.declared.Mast.{Mast}
+use Rattle.command_words.specs.declared.MastError.{MastError}
+use Rattle.command_words.specs.declared.MastError.TheVariants.{NoNumber, LongNumber, NoPlace}
 use Rattle.command_words.specs.declared.Request.{Request}
 use Rattle.command_words.specs.declared.WordsError.{WordsError}
-use Rattle.command_words.specs.declared.WordsError.TheVariants.{TooFew, TooMany, NoNumber, LongNumber, NoPlace}
+use Rattle.command_words.specs.declared.WordsError.TheVariants.{TooFew, TooMany}
 
 abbrev pub as_received : List ℕ
 as_received = bytes "--as-received"
@@ -53,30 +55,30 @@ mast_words true = 2
 mast_words false = 4
 
 -- what word k says, if it is a number
-unfoldable pub numbered : ℕ → Number → Result Float WordsError
+unfoldable pub numbered : ℕ → Number → Result Float MastError
 numbered k (Err NotANumber) = Err (NoNumber k)
 numbered k (Ok v) = Ok v
 numbered k (Err TooLong) = Err (LongNumber k)
 
 -- what follows from a value, if there is one
-unfoldable pub and_then : {A B : Type 0} → Result A WordsError → (A → Result B WordsError) → Result B WordsError
+unfoldable pub and_then : {A B : Type 0} → Result A MastError → (A → Result B MastError) → Result B MastError
 and_then (Ok v) next = next v
 and_then (Err e) next = Err e
 
 -- the inclination is in degrees
-abbrev pub inclination_of : Vec3 → Number → Result Mast WordsError
+abbrev pub inclination_of : Vec3 → Number → Result Mast MastError
 inclination_of v i = and_then (numbered 4 i) (λ d. Ok (record { rec_ecef = v; initial_i = radians_of d }))
 
-abbrev pub xyz_mast : Number → Number → Number → Number → Result Mast WordsError
+abbrev pub xyz_mast : Number → Number → Number → Number → Result Mast MastError
 xyz_mast x y z i = and_then (numbered 1 x) (λ a. and_then (numbered 2 y) (λ b. and_then (numbered 3 z) (λ c. inclination_of (place a b c) i)))
 
 -- what a position line and the word behind it say
-abbrev pub line_mast : Result Vec3 Refusal → Number → Result Mast WordsError
+abbrev pub line_mast : Result Vec3 Refusal → Number → Result Mast MastError
 line_mast (Ok v) i = inclination_of v i
 line_mast (Err r) i = Err (NoPlace r)
 
 -- of four words, or of two where the first is a position line; the first that is wrong answers
-unfoldable pub mast_of : List ℕ → List ℕ → List ℕ → List ℕ → Result Mast WordsError
+unfoldable pub mast_of : List ℕ → List ℕ → List ℕ → List ℕ → Result Mast MastError
 mast_of x y z i = cond (is_line x) (line_mast (read_position_of x) (number y)) (xyz_mast (number x) (number y) (number z) (number i))
 
 -- the files stand behind the program's name, maybe --as-received, and k words of mast and inclination
@@ -89,7 +91,7 @@ unfoldable pub request_of : Bool → ℕ → List ℕ → List ℕ → List ℕ 
 request_of received n x y z i =
     let k = mast_words (is_line x) in
     cond (ltb n (k + 2)) (Err TooFew) (cond (ltb (k + 17) n) (Err TooMany)
-    (and_then (mast_of x y z i) (λ m. Ok (record { mast = m; layout = layout_of received k (n - (k + 1)) }))))
+    (Ok (record { mast = mast_of x y z i; layout = layout_of received k (n - (k + 1)) })))
 
 -- what is true of every request's files (proofs/Counted.antt)
 pub record Few (l : Layout) : Type 0 where

@@ -42,22 +42,27 @@ pub struct Mast {
     pub initial_i: f64,
 }
 
-// What the words ask for.
+// Why the mast's words say none: which of X, Y, Z and the inclination, counted from 1, is no number, or is one with too many digits or
+// too large an exponent; or why a position line is refused.
+#[derive(Clone, Copy, PartialEq, Eq, Debug)]
+pub enum MastError {
+    NoNumber(usize),
+    LongNumber(usize),
+    NoPlace(Refusal),
+}
+
+// What the words ask for. Where the files stand does not turn on whether the mast's words say one.
 #[derive(Clone, Copy)]
 pub struct Request {
-    pub mast: Mast,
+    pub mast: Result<Mast, MastError>,
     pub layout: Layout,
 }
 
-// Why they ask for nothing: there are too few or too many; or which of X, Y, Z and the inclination, counted from 1, is no number, or is
-// one with too many digits or too large an exponent; or why a position line is refused.
+// Why they ask for nothing.
 #[derive(Clone, Copy, PartialEq, Eq, Debug)]
 pub enum WordsError {
     TooFew,
     TooMany,
-    NoNumber(usize),
-    LongNumber(usize),
-    NoPlace(Refusal),
 }
 
 // A first word with a comma is a position line.
@@ -76,18 +81,18 @@ fn mast_words(line: bool) -> usize
 
 // The number that word k says.
 #[tactic(auto, unfolding(crate::specs::Words::numbered))]
-fn number(k: usize, w: &[u8]) -> Result<f64, WordsError>
+fn number(k: usize, w: &[u8]) -> Result<f64, MastError>
     ensures { result ≡ numbered k (Read.number w.now) }
 {
     match read::parse(w) {
         Ok(v) => Ok(v),
-        Err(NumberError::NotANumber) => Err(WordsError::NoNumber(k)),
-        Err(NumberError::TooLong) => Err(WordsError::LongNumber(k)),
+        Err(NumberError::NotANumber) => Err(MastError::NoNumber(k)),
+        Err(NumberError::TooLong) => Err(MastError::LongNumber(k)),
     }
 }
 
 // A mast at this place, with the inclination's word, in degrees.
-fn inclined(rec_ecef: Vec3, i: &[u8]) -> Result<Mast, WordsError>
+fn inclined(rec_ecef: Vec3, i: &[u8]) -> Result<Mast, MastError>
     ensures { result ≡ inclination_of rec_ecef (Read.number i.now) }
 {
     let degrees = number(4, i)?;
@@ -98,7 +103,7 @@ fn inclined(rec_ecef: Vec3, i: &[u8]) -> Result<Mast, WordsError>
 }
 
 // A mast by X, Y and Z.
-fn by_numbers(x: &[u8], y: &[u8], z: &[u8], i: &[u8]) -> Result<Mast, WordsError>
+fn by_numbers(x: &[u8], y: &[u8], z: &[u8], i: &[u8]) -> Result<Mast, MastError>
     ensures { result ≡ xyz_mast (Read.number x.now) (Read.number y.now) (Read.number z.now) (Read.number i.now) }
 {
     let x = number(1, x)?;
@@ -108,7 +113,7 @@ fn by_numbers(x: &[u8], y: &[u8], z: &[u8], i: &[u8]) -> Result<Mast, WordsError
 }
 
 // What the first four words say, or, where the first is a position line, the first two; the first that is wrong answers.
-fn mast_of(x: &[u8], y: &[u8], z: &[u8], i: &[u8]) -> Result<Mast, WordsError>
+fn mast_of(x: &[u8], y: &[u8], z: &[u8], i: &[u8]) -> Result<Mast, MastError>
     ensures { result ≡ mast_of x.now y.now z.now i.now }
 {
     if !is_line(x) {
@@ -116,7 +121,7 @@ fn mast_of(x: &[u8], y: &[u8], z: &[u8], i: &[u8]) -> Result<Mast, WordsError>
     }
     match geodetic::line::read_position(x) {
         Ok(v) => inclined(v, y),
-        Err(refusal) => Err(WordsError::NoPlace(refusal)),
+        Err(refusal) => Err(MastError::NoPlace(refusal)),
     }
 }
 
@@ -152,6 +157,6 @@ pub fn request_of(
         return Err(WordsError::TooMany);
     }
     let layout = layout_of(received, k, words - (k + 1));
-    let mast = mast_of(x, y, z, i)?;
+    let mast = mast_of(x, y, z, i);
     Ok(Request { mast, layout })
 }

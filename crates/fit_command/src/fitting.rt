@@ -115,11 +115,12 @@ impl<'a> Fitted<'a> {
 }
 
 impl<'a, R: Env> Command<'a, R> {
-    // Why there is no fit; `nan` is the first file with a frequency that is not a number, if there is one.
-    fn fit_refused(&self, layout: Layout, refusal: Refusal, nan: Option<usize>) {
-        match nan {
-            Some(i) if refusal == Refusal::NanFrequency => {
-                messages::file_refusal(self.rt, self.stderr, word_of(i, layout.first), refusal);
+    // Why there is no fit; `nan` is the first file with a frequency that is not a number, or, where only mirroring makes one, the number of
+    // files, whose word has no name.
+    fn fit_refused(&self, layout: Layout, refusal: Refusal, nan: usize) {
+        match refusal {
+            Refusal::NanFrequency => {
+                messages::file_refusal(self.rt, self.stderr, word_of(nan, layout.first), refusal);
             }
             _ => messages::refusal(self.stderr, refusal),
         }
@@ -138,7 +139,7 @@ impl<'a, R: Env> Command<'a, R> {
         &self,
         layout: Layout,
         mast: Mast,
-        nan: Option<usize>,
+        nan: usize,
         counts: &[u32],
         times: &[i64],
         freqs: &mut [f64],
@@ -236,7 +237,7 @@ impl<'a, R: Env> Command<'a, R> {
             freqs,
         };
         self.tell_twins(layout.first, set);
-        let nan = pass_checks::nan_pass(counts, freqs);
+        let nan = pass_checks::nan_pass(counts, freqs).unwrap_or(counts.len());
         self.fit(layout, mast, nan, counts, times, freqs, centers, name)
     }
 }

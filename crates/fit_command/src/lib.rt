@@ -8,7 +8,7 @@ ghost use Rattle.std.specs.Prelude.{◌≤◌};
 ghost use Rattle.std.specs.Counts.{IsPrefixLen};
 ghost use Rattle.command_words.specs.Words.{Few};
 
-use command_words::{Request, WordsError};
+use command_words::{Layout, Mast, MastError, Request, WordsError};
 use std::env::{Env, FillError};
 use std::io;
 use std::io::{Stderr, Stdout};
@@ -39,24 +39,29 @@ fn tell(stderr: Stderr, error: WordsError) {
     match error {
         WordsError::TooFew => messages::usage(stderr),
         WordsError::TooMany => messages::too_many(stderr),
-        WordsError::NoNumber(k) => messages::no_number(stderr, k),
-        WordsError::LongNumber(k) => messages::long_number(stderr, k),
-        WordsError::NoPlace(refusal) => messages::no_place(stderr, refusal),
+    }
+}
+
+// Why the mast's words say none.
+fn tell_no_mast(stderr: Stderr, error: MastError) {
+    match error {
+        MastError::NoNumber(k) => messages::no_number(stderr, k),
+        MastError::LongNumber(k) => messages::long_number(stderr, k),
+        MastError::NoPlace(refusal) => messages::no_place(stderr, refusal),
     }
 }
 
 impl<'a, R: Files + Env> Command<'a, R> {
     // Gathers the files and fits.
-    fn fit_files(&self, request: Request) -> io::Result<()>
-        requires { Few request.layout }
+    fn fit_files(&self, layout: Layout, mast: Mast) -> io::Result<()>
+        requires { Few layout }
     {
-        let layout = request.layout;
         let mut counts = [0u32; 16];
         let mut times = [0i64; 4096];
         let mut freqs = [0.0f64; 4096];
         let mut centers = [0.0f64; 16];
         let mut name = [0u8; 256];
-        let Some(g) = pass_files::gather_files(
+        let Ok(g) = pass_files::gather_files(
             self.rt,
             self.stderr,
             layout.first,
@@ -77,13 +82,29 @@ impl<'a, R: Files + Env> Command<'a, R> {
         }
         self.check_and_fit(
             layout,
-            request.mast,
+            mast,
             &counts[..p],
             &times[..s],
             &mut freqs[..s],
             &centers[..p],
             &name[..size],
         )
+    }
+
+    // The mast, then the files; where its words say none, no file is opened.
+    fn fit_request(&self, request: Request) -> io::Result<()>
+        requires { Few request.layout }
+    {
+        match request.mast {
+            Ok(mast) => {
+                messages::position(self.stderr, mast.rec_ecef);
+                self.fit_files(request.layout, mast)
+            }
+            Err(error) => {
+                tell_no_mast(self.stderr, error);
+                Ok(())
+            }
+        }
     }
 
     // Of so many words, the program's name among them and `--as-received` not, of which the mast's first is word k. A position line has 256
@@ -108,10 +129,7 @@ impl<'a, R: Files + Env> Command<'a, R> {
             &i[..ni],
         );
         match request {
-            Ok(r) => {
-                messages::position(self.stderr, r.mast.rec_ecef);
-                self.fit_files(r)
-            }
+            Ok(r) => self.fit_request(r),
             Err(error) => {
                 tell(self.stderr, error);
                 Ok(())

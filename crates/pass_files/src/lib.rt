@@ -62,7 +62,7 @@ fn tell_name(stderr: Stderr, path: &[u8], kept: Name, name: &[u8], file: &[u8]) 
     }
 }
 
-// The open file's content is added. Why it is not has been told.
+// The open file's content is added. Where it is not, the set is given back as it was, and why has been told.
 fn add_content(
     stderr: Stderr,
     from: &mut impl Read,
@@ -73,23 +73,23 @@ fn add_content(
     freqs: &mut [f64],
     centers: &mut [f64],
     name: &mut [u8],
-) -> Option<Gathered>
+) -> Result<Gathered, Gathered>
     ensures { Continues g (arrays counts.old times.old freqs.old centers.old name.old)
         (arrays counts.new times.new freqs.new centers.new name.new) result }
 {
     let mut bytes = buffer();
     let Some(n) = read_file(stderr, from, path, &mut bytes) else {
-        return None;
+        return Err(g);
     };
     tell_name(stderr, path, g.name, name, &bytes[..n]);
     match gather::add(&bytes[..n], g, counts, times, freqs, centers, name) {
         Ok(set) => {
             say::skipped(stderr, path, &bytes[..n]);
-            Some(set)
+            Ok(set)
         }
         Err(refusal) => {
             say::refused(stderr, path, &bytes[..n], refusal);
-            None
+            Err(g)
         }
     }
 }
@@ -131,7 +131,7 @@ fn open<R: Files>(rt: &R, stderr: Stderr, path: &[u8]) -> Option<R::File> {
     }
 }
 
-// The file that word i names is added. Why it is not has been told.
+// The file that word i names is added. Where it is not, the set is given back as it was, and why has been told.
 fn add_word<R: Files + Env>(
     rt: &R,
     stderr: Stderr,
@@ -142,16 +142,16 @@ fn add_word<R: Files + Env>(
     freqs: &mut [f64],
     centers: &mut [f64],
     name: &mut [u8],
-) -> Option<Gathered>
+) -> Result<Gathered, Gathered>
     ensures { Continues g (arrays counts.old times.old freqs.old centers.old name.old)
         (arrays counts.new times.new freqs.new centers.new name.new) result }
 {
     let mut path = [0u8; 4096];
     let Some(n) = name_of(rt, stderr, i, &mut path) else {
-        return None;
+        return Err(g);
     };
     let Some(mut file) = open(rt, stderr, &path[..n]) else {
-        return None;
+        return Err(g);
     };
     add_content(
         stderr,
@@ -166,8 +166,9 @@ fn add_word<R: Files + Env>(
     )
 }
 
-// The n files from word `first` on, in their order; none after one that fails, and then no set. What a file holds no contract can
-// say: there are some n contents of which the arrays hold the set. `fit_command` meets the `requires` by proof.
+// The n files from word `first` on, in their order; none after one that fails, and then the error is the set of those before it. What a
+// file holds no contract can say: there are some n contents, or fewer, of which the arrays hold the set. `fit_command` meets the
+// `requires` by proof.
 pub fn gather_files<R: Files + Env>(
     rt: &R,
     stderr: Stderr,
@@ -178,7 +179,7 @@ pub fn gather_files<R: Files + Env>(
     freqs: &mut [f64],
     centers: &mut [f64],
     name: &mut [u8],
-) -> Option<Gathered>
+) -> Result<Gathered, Gathered>
     requires { (n ≤ 16) × (first ≤ 6) }
     ensures { Gathers n result (arrays counts.new times.new freqs.new centers.new name.new) }
 {
@@ -196,5 +197,5 @@ pub fn gather_files<R: Files + Env>(
             name,
         )?;
     }
-    Some(g)
+    Ok(g)
 }

@@ -1,5 +1,5 @@
 -- `mast_of` meets its contract. Assumes nothing.
-use Rattle.std.proofs.Common.{Bool, true, false, cond, Result, sym, ap, ◌∙◌}
+use Rattle.std.proofs.Common.{Result, sym, ap, ◌∙◌}
 use Rattle.refusal.specs.declared.Refusal.{Refusal}
 use Rattle.frame.specs.declared.Vec3.{Vec3}
 use Rattle.decimal.specs.Read.{number}

@@ -14,7 +14,7 @@ loop-i-init g c =
 pub returns-in_err-g : goal.returns-in_err-g
 returns-in_err-g g c =
     let i = c.loop-i.invariant in
-    ended_early (c.add_word.ensures.next _ i.6) (omega (arith, c.loop-i-test.true)) (search rules)
+    ended_early (c.add_word.ensures.next _ i.6) (omega (arith, c.loop-i-test.true)) c.in_err-g.was (search rules)
 
 pub overflow_step-i : goal.overflow_step-i
 overflow_step-i g c = record { fits = omega (arith, c.loop-i-test.true, c.requires.0) }

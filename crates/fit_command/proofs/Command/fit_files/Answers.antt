@@ -6,4 +6,4 @@ use Rattle.fit_command.proofs.Command.fit_files.Goals as goal
 
 pub check_and_fit-requires : goal.check_and_fit-requires
 check_and_fit-requires g c =
-    sizes_of (held c.gather_files.ensures c.in-Some.is) (omega arith) (omega arith)
+    sizes_of (held c.gather_files.ensures c.in-Ok.is) (omega arith) (omega arith)
