@@ -160,16 +160,20 @@ impl Augmented<'_> {
         }
     }
 
+    // Entry by entry: the library's copy of a slice comes out as a call of C's `memmove`, a name that whoever links the archives
+    // would have to bring.
     fn augment_row(&mut self, m: &[f64], v: &[f64], r: usize)
         requires { (length m.now ≡ self.old.n * self.old.n) × (length v.now ≡ self.old.n) × (r < self.old.n) }
         ensures size { self.new.n ≡ self.old.n }
         ensures after { self.new.entries.now ≡ augment_row self.old.n m.now v.now r self.old.entries.now }
     {
         let n = self.n;
-        let first = self.cell(r, 0);
-        let last = self.cell(r, n);
         let k = r * n;
-        self.entries[first..last].copy_from_slice(&m[k..k + n]);
+        for (c, &entry) in m[k..k + n].iter().enumerate() {
+            let p = self.cell(r, c);
+            self.entries[p] = entry;
+        }
+        let last = self.cell(r, n);
         self.entries[last] = v[r];
     }
 

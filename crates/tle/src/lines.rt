@@ -1,6 +1,6 @@
 // The columns of the two lines. `line_1`, `line_2` and `put_line` serve `format_tle_catalog`, whose proofs show that each number fits
 // its columns and that the output has room.
-ghost use Rattle.std.specs.Prelude.{◌≡◌, [], ◌∷◌, ◌++◌, ◌+◌, ◌<◌, T, length};
+ghost use Rattle.std.specs.Prelude.{◌≡◌, [], ◌∷◌, ◌++◌, ◌+◌, ◌≤◌, ◌<◌, T, length};
 ghost use Rattle.std.proofs.lemmas.List.Edits.{sets};
 ghost use Rattle.decimal.specs.Fixed.{printable, digit_at};
 ghost use Rattle.tle.specs.Lines.{body1, body2, closed};
@@ -36,12 +36,22 @@ pub fn line_2(i: f64, raan: f64, u: f64, n: f64) -> [u8; 69]
     line
 }
 
-// Copies the line into `out` from place `at` on, and a line feed after it.
+// Copies `from` into `to` from place `at` on, byte by byte: the library's copy of a slice comes out as a call of C's `memmove`,
+// a name that whoever links the archives would have to bring.
+fn copy_to(from: &[u8], to: &mut [u8], at: usize)
+    requires { at + length from.now ≤ length to.old }
+    ensures { to.new ≡ sets to.old at from.now }
+{
+    for (i, &byte) in from.iter().enumerate() {
+        to[at + i] = byte;
+    }
+}
+
+// The same, and a line feed after it.
 pub fn put_line(line: &[u8], out: &mut [u8], at: usize)
     requires { at + length line.now < length out.old }
     ensures { out.new ≡ sets out.old at (line.now ++ 10 ∷ []) }
 {
-    let end = at + line.len();
-    out[at..end].copy_from_slice(line);
-    out[end] = b'\n';
+    copy_to(line, out, at);
+    out[at + line.len()] = b'\n';
 }

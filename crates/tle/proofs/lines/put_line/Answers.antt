@@ -1,12 +1,11 @@
-use Rattle.std.proofs.Common.{arith, ◌+◌, length}
-use mathlib.Core.List.{append_assoc}
-use lib.Seq.{sets-eq}
-use borrow.Rule.Slice.PartMut.{Post-is}
+use mathlib.Core.Path.{ap, ◌∙◌}
+use mathlib.Core.List.{List}
+use Prim.Native.Nat.{ℕ, ◌+◌}
+use lib.ListN.{length, set}
 use Rattle.tle.proofs.Texts.{line_feed}
 use Rattle.tle.proofs.lines.put_line.Goals as goal
 
 pub returns : goal.returns
 returns c =
     let a = c.args in
-    rw (Post-is a.at (a.at + length a.line.now) a.out.now (omega arith), c.copy_from_slice.ensures.after, ← append_assoc _ _ _, ← sets-eq a.line.now a.out.now a.at (omega arith))
-    (line_feed a.line.now a.out.now a.at)
+    ap (λ (l : List ℕ). set l (a.at + length a.line.now) 10) c.copy_to.ensures ∙ line_feed a.line.now a.out.now a.at
